@@ -5,19 +5,19 @@ use crate::tests::{Row, answer_rows};
 use jasminc_top::Status;
 use std::test::Fail;
 
-const CONDITIONAL_SWAP: &[u8] =
+pub(crate) const CONDITIONAL_SWAP: &[u8] =
     b"export fn conditional_swap(#secret reg u64 flag x y) -> reg u64, reg u64 {\n  reg u64 mask difference a b;\n  mask = -flag;\n  difference = x ^ y;\n  difference &= mask;\n  a = x ^ difference;\n  b = y ^ difference;\n  return a, b;\n}\n";
 
-const EQUAL_GROUPS: &[u8] =
+pub(crate) const EQUAL_GROUPS: &[u8] =
     b"inline fn unpack(reg u64 packed, reg u16[4] words) -> reg u16[4] {\n  inline int i;\n  for i = 0 to 4 {\n    words[i] = (16u)packed;\n    packed >>= 16;\n  }\n  return words;\n}\n\nexport fn equal_groups(#secret reg u64 x y) -> reg u64 {\n  reg u16[4] a b;\n  reg u16 differences difference;\n  reg u8 same;\n  reg u64 equal;\n  inline int i;\n  a = unpack(x, a);\n  b = unpack(y, b);\n  differences = 0;\n  for i = 0 to 4 {\n    difference = a[i] ^ b[i];\n    differences |= difference;\n  }\n  same = #SETcc(differences == 0);\n  equal = (64u)same;\n  return equal;\n}\n";
 
-const CARRY_CHAIN: &[u8] =
+pub(crate) const CARRY_CHAIN: &[u8] =
     b"export fn add_word(#secret reg u64 x0 x1 x2 x3 word) -> reg u64, reg u64 {\n  reg u64[4] sum;\n  reg u64 highest carry;\n  reg bool cf;\n  inline int i;\n  sum[0] = x0;\n  sum[1] = x1;\n  sum[2] = x2;\n  sum[3] = x3;\n  carry = 0;\n  cf, sum[0] += word;\n  for i = 1 to 4 {\n    cf, sum[i] += 0 + cf;\n  }\n  carry += 0 + cf;\n  highest = sum[3];\n  return highest, carry;\n}\n";
 
-const BYTE_ORDER: &[u8] =
+pub(crate) const BYTE_ORDER: &[u8] =
     b"export fn byte_order(#secret reg u64 x y) -> reg u64, reg u64 {\n  reg u32[4] words;\n  reg u64 low high upper;\n  inline int i;\n  words[0] = (32u)x;\n  x >>= 32;\n  words[1] = (32u)x;\n  words[2] = (32u)y;\n  y >>= 32;\n  words[3] = (32u)y;\n  for i = 0 to 4 {\n    words[i] = #BSWAP(words[i]);\n  }\n  low = (64u)words[0];\n  upper = (64u)words[1];\n  upper <<= 32;\n  low |= upper;\n  high = (64u)words[2];\n  upper = (64u)words[3];\n  upper <<= 32;\n  high |= upper;\n  return low, high;\n}\n";
 
-const QUARTER_ROUND: &[u8] =
+pub(crate) const QUARTER_ROUND: &[u8] =
     b"inline fn step(reg u32 a b d, inline int count) -> reg u32, reg u32 {\n  a += b;\n  d ^= a;\n  d <<r= count;\n  return a, d;\n}\n\nexport fn quarter_round(#secret reg u32 a b c d) -> reg u64, reg u64 {\n  reg u64 ab cd upper;\n  a, d = step(a, b, d, 16);\n  c, b = step(c, d, b, 12);\n  a, d = step(a, b, d, 8);\n  c, b = step(c, d, b, 7);\n  ab = (64u)a;\n  upper = (64u)b;\n  upper <<= 32;\n  ab |= upper;\n  cd = (64u)c;\n  upper = (64u)d;\n  upper <<= 32;\n  cd |= upper;\n  return ab, cd;\n}\n";
 
 /// The routines of examples/, on the words that they tell.

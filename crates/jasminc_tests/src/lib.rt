@@ -13,6 +13,8 @@ mod front_tests;
 #[cfg(test)]
 mod interp_tests;
 #[cfg(test)]
+mod judgement_tests;
+#[cfg(test)]
 mod language_tests;
 #[cfg(test)]
 mod live_tests;

@@ -123,6 +123,16 @@ const MASKED_COPY_UNMET: &str = "\
 @1111111111111111 @0x30000004:2222222222222222 1 1 => precondition align source 8
 ";
 
+const MASKED_LOOKUP: &str =
+    "#[region=\"table: 8*len\"]\n#[range=\"len: 0..4096\"]\n#[align=\"table: 8\"]\nexport fn masked_lookup(#public reg u64 table len, #secret reg u64 index) -> reg u64 {\n  reg u64 found word i;\n  found = 0;\n  i = 0;\n  while (i < len) {\n    word = [table + 8*i];\n    found = word if i == index;\n    i += 1;\n  }\n  return found;\n}\n";
+
+const MASKED_LOOKUP_ENDS: &str = "\
+@01000000000000000200000000000000 2 1 => end~result found 0x0000000000000002~region table 01000000000000000200000000000000
+@01000000000000000200000000000000 2 0 => end~result found 0x0000000000000001~region table 01000000000000000200000000000000
+@01000000000000000200000000000000 2 2 => end~result found 0x0000000000000000~region table 01000000000000000200000000000000
+@ 0 0 => end~result found 0x0000000000000000~region table -
+";
+
 const TWO: &str =
     "#[region=\"p: 16\"]\n#[region=\"q: 8\"]\nexport fn two(reg u64 p q) {\n  reg u64 r;\n  r = 7;\n  [q] = r;\n}\n";
 
@@ -259,6 +269,16 @@ fn ranges_are_asked(rt: HostRuntime) -> Result<(), Fail> {
     rows_are(&rt, rt.alloc(), &unmet("quo", QUO), QUO_UNMET)?;
     rows_are(&rt, rt.alloc(), &ends("low", LOW), LOW_ENDS)?;
     rows_are(&rt, rt.alloc(), &unmet("low", LOW), LOW_UNMET)
+}
+
+#[test]
+fn a_region_is_searched(rt: HostRuntime) -> Result<(), Fail> {
+    rows_are(
+        &rt,
+        rt.alloc(),
+        &ends("masked_lookup", MASKED_LOOKUP),
+        MASKED_LOOKUP_ENDS,
+    )
 }
 
 #[test]

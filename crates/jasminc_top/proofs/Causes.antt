@@ -5,7 +5,7 @@ use Rattle.jz_grammar.specs.LexFault.{LexFault}
 use Rattle.jz_grammar.specs.declared.fault.SyntaxFault.{SyntaxFault}
 use Rattle.jz_first.specs.declared.fault.TypeFault.{TypeFault}
 use Rattle.jz_first.specs.declared.tree.Program.{Program}
-use Rattle.jasminc_top.specs.declared.refusal.Refusal.TheVariants.{Usage, ReadFault, Source, Lex, Parse, Typing, NoFunction, Limit, Alarm, NoPlace, Items, Interp, Disasm, Check}
+use Rattle.jasminc_top.specs.declared.refusal.Refusal.TheVariants.{Usage, ReadFault, Source, Lex, Parse, Typing, NoFunction, Limit, Alarm, NoPlace, Items, Interp, Disasm, Check, Ct}
 use Rattle.jz_grammar.specs.Lexing.{IsLexed, HasNoToken}
 use Rattle.jz_first.specs.Deriving.{DerivesProgram, IsUnexpected}
 use Rattle.jz_first.specs.Reading.{Reads, LexFails, ParseFails}
@@ -91,6 +91,7 @@ clear_text text n e Items lt c = c
 clear_text text n e (Interp r) lt c = c
 clear_text text n e (Disasm f) lt c = c
 clear_text text n e (Check r) lt c = c
+clear_text text n e (Ct r) lt c = c
 
 -- and those of a run
 pub record ExcludesRun (text fun items : List ℕ) (n : ℕ) : Type 0 where

@@ -13,7 +13,7 @@ use Rattle.jasminc_check.specs.Causes as causes
 use Rattle.jasminc_check.specs.Answers as answers
 use Rattle.jasminc_top.specs.declared.refusal.Status.TheVariants as status
 use Rattle.jasminc_top.specs.declared.refusal.Refusal.{Refusal}
-use Rattle.jasminc_top.specs.declared.refusal.Refusal.TheVariants.{Usage, ReadFault, Source, Lex, Parse, Typing, NoFunction, Limit, Alarm, NoPlace, Items, Interp, Disasm, Check}
+use Rattle.jasminc_top.specs.declared.refusal.Refusal.TheVariants.{Usage, ReadFault, Source, Lex, Parse, Typing, NoFunction, Limit, Alarm, NoPlace, Items, Interp, Disasm, Check, Ct}
 use Rattle.jasminc_top.specs.declared.answer.Reply.{Reply}
 use Rattle.jasminc_top.specs.Refusals.{all_stages}
 use Rattle.jasminc_top.specs.Stage.{ComesFrom}
@@ -35,6 +35,7 @@ cleared text n short clear Items lt c = c
 cleared text n short clear (Interp r) lt c = c
 cleared text n short clear (Disasm f) lt c = c
 cleared text n short clear (Check r) lt c = clear r lt c
+cleared text n short clear (Ct r) lt c = c
 
 -- each cause is among the stages
 early : (r : Refused) → causes.stage_of r < answers.all_stages

@@ -11,7 +11,7 @@ use Rattle.jz_disasm_text.specs.Shown.{FailsAs, Shows}
 use Rattle.jz_disasm_text.proofs.OneAnswer.{one_answer}
 use Rattle.jasminc_top.specs.declared.refusal.Status.TheVariants as status
 use Rattle.jasminc_top.specs.declared.refusal.Refusal.{Refusal}
-use Rattle.jasminc_top.specs.declared.refusal.Refusal.TheVariants.{Usage, ReadFault, Source, Lex, Parse, Typing, NoFunction, Limit, Alarm, NoPlace, Items, Interp, Disasm, Check}
+use Rattle.jasminc_top.specs.declared.refusal.Refusal.TheVariants.{Usage, ReadFault, Source, Lex, Parse, Typing, NoFunction, Limit, Alarm, NoPlace, Items, Interp, Disasm, Check, Ct}
 use Rattle.jasminc_top.specs.declared.answer.Reply.{Reply}
 use Rattle.jasminc_top.specs.Refusals.{all_stages}
 use Rattle.jasminc_top.specs.Stage.{ComesFrom}
@@ -33,6 +33,7 @@ cleared text n short clear Items lt c = c
 cleared text n short clear (Interp r) lt c = c
 cleared text n short clear (Disasm f) lt c = clear f lt c
 cleared text n short clear (Check r) lt c = c
+cleared text n short clear (Ct r) lt c = c
 
 first_cause : (text : List ℕ) (f : Fault) → length text ≤ source_limit → FailsAs text f → IsFirstCause (DisasmCause text) (Disasm f)
 first_cause text f short h = record { cause = h; first = cleared text 2 short (λ g lt c. absurd (omega (arith, lt))) }

@@ -5,7 +5,7 @@ use Rattle.jz_first.specs.declared.tree.Program.{Program}
 use Rattle.jz_first.specs.declared.tree.Fun.{Fun}
 use Rattle.jz_listing.specs.declared.compiled.Compiled.{Compiled}
 use Rattle.jz_items.specs.Items.{words_of}
-use Rattle.jasminc_words.specs.Wanted.{Called, Wanted, compile, exec, interp, disasm, check, wanted_command}
+use Rattle.jasminc_words.specs.Wanted.{Called, Wanted, compile, exec, interp, disasm, check, ct, wanted_command}
 use Rattle.jasminc_words.proofs.NumbersFit.{words_fit}
 use Rattle.jasminc_exec.specs.Running.{ItemsFit}
 use Rattle.jasminc_top.specs.declared.refusal.Status.{Status}
@@ -114,6 +114,7 @@ executes_wish (Some (exec call)) told sink made prints = prints call refl
 executes_wish (Some (interp call)) told sink made prints = tt
 executes_wish (Some (disasm file)) told sink made prints = tt
 executes_wish (Some (check file)) told sink made prints = tt
+executes_wish (Some (ct file)) told sink made prints = tt
 
 items_fit : (words : List (List ℕ)) (wish : Option Wanted) (call : Called) → wish ≡ wanted_command words → wish ≡ Some (exec call) → ItemsFit (words_of call.items)
 items_fit words wish call wished is = (words_fit words (exec call) (sym wished ∙ is)).0
@@ -135,6 +136,7 @@ cut_by words run (exec call) text output made wished r cut is g = prints_cut cal
 cut_by words run (interp call) text output made wished r cut is g = prints_outcome call run status.OutOfFuel tt r is cut
 cut_by words run (disasm file) text output made wished r cut is g = absurd (not_cut g.ok)
 cut_by words run (check file) text output made wished r cut is g = absurd (not_cut g.ok)
+cut_by words run (ct file) text output made wished r cut is g = absurd (not_cut g.ok)
 
 pub run_cut : (words : List (List ℕ)) (run : Run) → run.wish ≡ wanted_command words → Runs run → run.done.status ≡ status.OutOfFuel
     → IsCut run.wish run.source run.sink run.done.made
@@ -157,6 +159,7 @@ stuck_by run (exec call) text output made r stuck is g = absurd (not_stuck_run g
 stuck_by run (interp call) text output made r stuck is g = prints_outcome call run status.Stuck tt r is stuck
 stuck_by run (disasm file) text output made r stuck is g = absurd (not_stuck g.ok)
 stuck_by run (check file) text output made r stuck is g = absurd (not_stuck g.ok)
+stuck_by run (ct file) text output made r stuck is g = absurd (not_stuck g.ok)
 
 pub run_stuck : (run : Run) → Runs run → run.done.status ≡ status.Stuck → IsStuck run.wish run.source run.sink
 run_stuck run r stuck =

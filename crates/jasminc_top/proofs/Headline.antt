@@ -2,7 +2,7 @@
 use Rattle.std.proofs.Common.{◌≡◌, ◌∙◌, ℕ, List, Option, Some, None, refl, sym, subst, inl, inr}
 use Rattle.std.specs.Io.KnownBytes.{Appends}
 use Rattle.jz_listing.specs.declared.compiled.Compiled.{Compiled}
-use Rattle.jasminc_words.specs.Wanted.{Wanted, compile, exec, interp, disasm, check}
+use Rattle.jasminc_words.specs.Wanted.{Wanted, compile, exec, interp, disasm, check, ct}
 use Rattle.jasminc_top.specs.declared.refusal.Status.{Status}
 use Rattle.jasminc_top.specs.declared.refusal.Status.TheVariants as status
 use Rattle.jasminc_top.specs.Told.{SourceTold, SinkTold}
@@ -58,6 +58,7 @@ compiles_wish (Some (exec call)) told sink made prints = tt
 compiles_wish (Some (interp call)) told sink made prints = tt
 compiles_wish (Some (disasm file)) told sink made prints = tt
 compiles_wish (Some (check file)) told sink made prints = tt
+compiles_wish (Some (ct file)) told sink made prints = tt
 
 pub run_compiles : (run : Run) → Runs run → run.done.status ≡ status.Ok → Compiles run.wish run.source run.sink run.done.made
 run_compiles run r ok = compiles_wish run.wish run.source run.sink run.done.made (λ file is. prints_file file run r is ok)

@@ -12,7 +12,7 @@ use Rattle.jasminc_interp.specs.declared.refused.Refused.{Refused}
 use Rattle.jasminc_interp.specs.declared.telling.Ran as source
 use Rattle.jasminc_top.specs.declared.refusal.Status.{Status}
 use Rattle.jasminc_top.specs.declared.refusal.Refusal.{Refusal}
-use Rattle.jasminc_top.specs.declared.refusal.Refusal.TheVariants.{Usage, ReadFault, Source, Lex, Parse, Typing, NoFunction, Limit, Alarm, NoPlace, Items, Interp, Disasm, Check}
+use Rattle.jasminc_top.specs.declared.refusal.Refusal.TheVariants.{Usage, ReadFault, Source, Lex, Parse, Typing, NoFunction, Limit, Alarm, NoPlace, Items, Interp, Disasm, Check, Ct}
 use Rattle.jasminc_top.specs.declared.answer.Reply.{Reply}
 use Rattle.jasminc_top.specs.Refusals.{all_stages}
 use Rattle.jasminc_top.specs.Stage.{ComesFrom}
@@ -34,6 +34,7 @@ cleared call text n short clear Items lt c = c
 cleared call text n short clear (Interp r) lt c = clear r lt c
 cleared call text n short clear (Disasm f) lt c = c
 cleared call text n short clear (Check r) lt c = c
+cleared call text n short clear (Ct r) lt c = c
 
 first_cause : (call : Called) (text : List ℕ) → length text ≤ source_limit → (r : Refused) → runs.IsFirstCause text call.fun call.items r
     → IsFirstCause (InterpCause call text) (Interp r)

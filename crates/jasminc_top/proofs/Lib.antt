@@ -18,3 +18,5 @@ pub mod DisasmCauses
 pub mod DisasmHeadline
 pub mod CheckCauses
 pub mod CheckHeadline
+pub mod CtCauses
+pub mod CtHeadline

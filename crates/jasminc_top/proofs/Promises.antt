@@ -9,6 +9,7 @@ use Rattle.jasminc_top.proofs.InterpHeadline.{run_interprets}
 use Rattle.jasminc_top.proofs.ExecHeadline.{run_executes, run_cut, run_stuck}
 use Rattle.jasminc_top.proofs.DisasmHeadline.{run_disassembles}
 use Rattle.jasminc_top.proofs.CheckHeadline.{run_checks}
+use Rattle.jasminc_top.proofs.CtHeadline.{run_judges}
 
 pub keeps_promises : (words : List (List ℕ)) (run : Run) → run.wish ≡ wanted_command words → Runs run → KeepsPromises run
 keeps_promises words run wished r = record {
@@ -20,6 +21,7 @@ keeps_promises words run wished r = record {
   cut = run_cut words run wished r;
   disassembles = run_disassembles run r;
   checks = run_checks run r;
+  judges = run_judges run r;
   comes_only = run_comes run r;
   write_fault = run_write_fault run r;
   refused = run_refused run r;

@@ -4,12 +4,12 @@ use Rattle.std.specs.Prelude.{⊤, ◌≢◌}
 use Rattle.jz_io.specs.Causes.{Rose}
 use Rattle.jz_io.specs.Telling.{Telling, text_of, IsWhole}
 use Rattle.jz_listing.specs.declared.compiled.Compiled.{Compiled}
-use Rattle.jasminc_words.specs.Wanted.{Wanted, compile, exec, interp, disasm, check, file_of}
+use Rattle.jasminc_words.specs.Wanted.{Wanted, compile, exec, interp, disasm, check, ct, file_of}
 use Rattle.jasminc_top.specs.declared.refusal.Status.{Status}
 use Rattle.jasminc_top.specs.declared.refusal.Status.TheVariants as status
 use Rattle.jasminc_top.specs.declared.refusal.Refusal.{Refusal}
-use Rattle.jasminc_top.specs.declared.refusal.Refusal.TheVariants.{Usage, ReadFault, Interp, Disasm, Check}
-use Rattle.jasminc_top.specs.Refusals.{status_of_refused, status_of_fault, status_of_unsafe, status_of, stage_of}
+use Rattle.jasminc_top.specs.declared.refusal.Refusal.TheVariants.{Usage, ReadFault, Interp, Disasm, Check, Ct}
+use Rattle.jasminc_top.specs.Refusals.{status_of_refused, status_of_fault, status_of_unsafe, status_of_breached, status_of, stage_of}
 use Rattle.jasminc_top.specs.Told.{SourceTold}
 use Rattle.jasminc_exec.specs.declared.exec.Ran.{Ran}
 use Rattle.jasminc_exec.specs.declared.exec.Ran.TheVariants as ran
@@ -22,6 +22,9 @@ use Rattle.jasminc_interp.specs.Causes as interp_causes
 use Rattle.jasminc_check.specs.declared.refused.Refused as checking
 use Rattle.jasminc_check.specs.declared.refused.Refused.TheVariants as found
 use Rattle.jasminc_check.specs.Causes as checks
+use Rattle.jasminc_ct.specs.declared.refused.Refused as judging
+use Rattle.jasminc_ct.specs.declared.refused.Refused.TheVariants as judged
+use Rattle.jasminc_ct.specs.Causes as judgements
 use Rattle.jz_disasm_text.specs.declared.Fault.{Fault}
 use Rattle.jz_disasm_text.specs.declared.Fault.TheVariants as fault
 use Rattle.jasminc_top.specs.Answers.{Cause, HasText, IsDue, IsUsage, IsNoCommand, IsQuiet, IsToldBy, IsToldAs, IsResult, Gives}
@@ -43,10 +46,18 @@ check_bounded (found.Unread (unread.Typing fault)) = omega arith
 check_bounded (found.Limit l) = omega arith
 check_bounded (found.Alarm a) = omega arith
 
+ct_bounded : (r : judging.Refused) → judgements.stage_of r < 11
+ct_bounded (judged.Unread (unread.Lex fault)) = omega arith
+ct_bounded (judged.Unread (unread.Parse fault)) = omega arith
+ct_bounded (judged.Unread (unread.Typing fault)) = omega arith
+ct_bounded (judged.Limit l) = omega arith
+ct_bounded (judged.Breach b) = omega arith
+
 bounded : (r : Refusal) → stage_of r < 11
 bounded Usage = omega arith
 bounded (Interp r) = run_bounded r
 bounded (Check r) = check_bounded r
+bounded (Ct r) = ct_bounded r
 bounded _ = omega arith
 
 same_text : (a b : List ℕ) (o : Option (List ℕ)) → o ≡ Some a → o ≡ Some b → a ≡ b
@@ -146,11 +157,19 @@ no_other_check (found.Unread (unread.Typing fault)) h = h
 no_other_check (found.Limit l) h = h
 no_other_check (found.Alarm a) h = h
 
+no_other_ct : (r : judging.Refused) → IsOther (status_of_breached r) → ⊥
+no_other_ct (judged.Unread (unread.Lex fault)) h = h
+no_other_ct (judged.Unread (unread.Parse fault)) h = h
+no_other_ct (judged.Unread (unread.Typing fault)) h = h
+no_other_ct (judged.Limit l) h = h
+no_other_ct (judged.Breach b) h = h
+
 no_other : (r : Refusal) → IsOther (status_of r) → ⊥
 no_other Usage h = h
 no_other (Interp r) h = no_other_run r h
 no_other (Disasm f) h = no_other_fault f h
 no_other (Check r) h = no_other_check r h
+no_other (Ct r) h = no_other_ct r h
 no_other r h = h
 
 pub never_refused : (r : Refusal) (s : Status) → IsOther s → s ≡ status_of r → ⊥
@@ -163,6 +182,7 @@ never_usage (exec call) text c = c
 never_usage (interp call) text c = c
 never_usage (disasm file) text c = c
 never_usage (check file) text c = c
+never_usage (ct file) text c = c
 
 pub never_read_fault : (wish : Option Wanted) (text : List ℕ) → Cause wish text ReadFault → ⊥
 never_read_fault None text c = cc
@@ -171,6 +191,7 @@ never_read_fault (Some (exec call)) text c = c
 never_read_fault (Some (interp call)) text c = c
 never_read_fault (Some (disasm file)) text c = c
 never_read_fault (Some (check file)) text c = c
+never_read_fault (Some (ct file)) text c = c
 
 usage_caused : (wish : Option Wanted) (text : List ℕ) → Cause wish text Usage → wish ≡ None
 usage_caused None text c = refl
@@ -197,6 +218,7 @@ gives_result (exec call) text s output made g = told_result g.run.ran s output g
 gives_result (interp call) text s output made g = outcome_result g.ran s output g.told
 gives_result (disasm file) text s output made g = subst IsResult (sym g.ok) tt
 gives_result (check file) text s output made g = subst IsResult (sym g.ok) tt
+gives_result (ct file) text s output made g = subst IsResult (sym g.ok) tt
 
 pub result_other : (s : Status) → IsResult s → IsOther s
 result_other status.Ok r = tt
@@ -299,6 +321,7 @@ gives_none (exec call) text s output made ok cut g = absurd (run_made_at g.run.r
 gives_none (interp call) text s output made ok cut g = g.none
 gives_none (disasm file) text s output made ok cut g = g.none
 gives_none (check file) text s output made ok cut g = g.none
+gives_none (ct file) text s output made ok cut g = g.none
 
 due_made : (wish : Option Wanted) (told : SourceTold) (s : Status) (output : List ℕ) (made : List Compiled) → IsDue wish told s output made
     → (s ≡ status.Ok → ⊥) → (s ≡ status.OutOfFuel → ⊥) → made ≡ []

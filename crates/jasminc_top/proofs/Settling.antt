@@ -10,8 +10,8 @@ use Rattle.jasminc_top.specs.declared.answer.Reply.{Reply}
 use Rattle.jasminc_top.specs.declared.refusal.Status.{Status}
 use Rattle.jasminc_top.specs.declared.refusal.Status.TheVariants as status
 use Rattle.jasminc_top.specs.declared.refusal.Refusal.{Refusal}
-use Rattle.jasminc_top.specs.declared.refusal.Refusal.TheVariants.{Usage, ReadFault, Source, Interp, Disasm, Check}
-use Rattle.jasminc_words.specs.Wanted.{Wanted, compile, exec, interp, disasm, check, file_of}
+use Rattle.jasminc_top.specs.declared.refusal.Refusal.TheVariants.{Usage, ReadFault, Source, Interp, Disasm, Check, Ct}
+use Rattle.jasminc_words.specs.Wanted.{Wanted, compile, exec, interp, disasm, check, ct, file_of}
 use Rattle.jasminc_interp.specs.declared.refused.Refused.{Refused}
 use Rattle.jasminc_interp.specs.declared.refused.Refused.TheVariants as refused
 use Rattle.jasminc_source.specs.declared.unread.Unread.TheVariants as unread
@@ -19,9 +19,12 @@ use Rattle.jasminc_interp.specs.Causes as interp_causes
 use Rattle.jasminc_check.specs.declared.refused.Refused as checking
 use Rattle.jasminc_check.specs.declared.refused.Refused.TheVariants as found
 use Rattle.jasminc_check.specs.Causes as checks
+use Rattle.jasminc_ct.specs.declared.refused.Refused as judging
+use Rattle.jasminc_ct.specs.declared.refused.Refused.TheVariants as judged
+use Rattle.jasminc_ct.specs.Causes as judgements
 use Rattle.jz_disasm_text.specs.declared.Fault.{Fault}
 use Rattle.jz_disasm_text.specs.declared.Fault.TheVariants as fault
-use Rattle.jasminc_top.specs.Refusals.{status_of_refused, status_of_fault, status_of_unsafe, status_of, line_of}
+use Rattle.jasminc_top.specs.Refusals.{status_of_refused, status_of_fault, status_of_unsafe, status_of_breached, status_of, line_of}
 use Rattle.jasminc_top.specs.Told.{SourceTold}
 use Rattle.jasminc_top.specs.Answers.{source_limit, Cause, Clear, HasText, IsDue, IsQuiet, IsResult, FileRefuses, After, Performs}
 use Rattle.jasminc_top.specs.Runs.{Run, Due, Runs, IsFree, Writes, WritesRefusal, WritesNoMemory}
@@ -42,6 +45,7 @@ long_cause (exec call) text long = long
 long_cause (interp call) text long = long
 long_cause (disasm file) text long = long
 long_cause (check file) text long = long
+long_cause (ct file) text long = long
 
 run_late : (r : Refused) → 1 ≤ interp_causes.stage_of r
 run_late (refused.Unread (unread.Lex fault)) = omega arith
@@ -59,10 +63,18 @@ check_late (found.Unread (unread.Typing fault)) = omega arith
 check_late (found.Limit l) = omega arith
 check_late (found.Alarm a) = omega arith
 
+ct_late : (r : judging.Refused) → 1 ≤ judgements.stage_of r
+ct_late (judged.Unread (unread.Lex fault)) = omega arith
+ct_late (judged.Unread (unread.Parse fault)) = omega arith
+ct_late (judged.Unread (unread.Typing fault)) = omega arith
+ct_late (judged.Limit l) = omega arith
+ct_late (judged.Breach b) = omega arith
+
 clear_file : (wish : Wanted) (text : List ℕ) → Clear (Cause (Some wish) text) 1
 clear_file wish text Usage lt c = never_usage wish text c
 clear_file wish text (Interp r) lt c = let late = run_late r in absurd (omega (arith, lt, late))
 clear_file wish text (Check r) lt c = let late = check_late r in absurd (omega (arith, lt, late))
+clear_file wish text (Ct r) lt c = let late = ct_late r in absurd (omega (arith, lt, late))
 clear_file wish text r lt c = absurd (omega (arith, lt))
 
 pub file_refused : (wish : Wanted) (told : SourceTold) (r : Refusal) → FileRefuses (file_of wish) told r → Performs (Some wish) told (Err r)
@@ -123,6 +135,13 @@ check_bound (found.Unread (unread.Typing fault)) h = h
 check_bound (found.Limit l) h = h
 check_bound (found.Alarm a) h = h
 
+ct_bound : (r : judging.Refused) → IsFree (status_of_breached r) → ⊥
+ct_bound (judged.Unread (unread.Lex fault)) h = h
+ct_bound (judged.Unread (unread.Parse fault)) h = h
+ct_bound (judged.Unread (unread.Typing fault)) h = h
+ct_bound (judged.Limit l) h = h
+ct_bound (judged.Breach b) h = h
+
 refusal_due : (wish : Option Wanted) (told : SourceTold) (r : Refusal) → Performs wish told (Err r) → Due wish told (status_of r) (line_of r) []
 refusal_due wish told ReadFault p = (refl, refl, p)
 refusal_due wish told (Interp r) p =
@@ -149,6 +168,15 @@ refusal_due wish told (Check r) p =
       text = p.text;
       has = p.has;
       answers = inl (record { refusal = Check r; cause = p.after.cause; first = p.after.first; status = refl; line = refl; none = refl });
+      read = p.read;
+    })
+    p.quiet
+refusal_due wish told (Ct r) p =
+    plain_due wish told (status_of_breached r) (line_of (Ct r)) [] (ct_bound r)
+    (record {
+      text = p.text;
+      has = p.has;
+      answers = inl (record { refusal = Ct r; cause = p.after.cause; first = p.after.first; status = refl; line = refl; none = refl });
       read = p.read;
     })
     p.quiet

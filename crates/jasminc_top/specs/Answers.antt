@@ -18,9 +18,11 @@ use Rattle.jz_listing.specs.declared.compiled.Compiled.{Compiled}
 use Rattle.jz_disasm_text.specs.Shown.{FailsAs, Shows}
 use Rattle.jz_items.specs.Items.{words_of}
 use Rattle.jasminc_words.specs.Wanted.{Called, Wanted, compile, exec, interp, disasm}
-use Rattle.jasminc_words.specs.Wanted.{check, file_of}
+use Rattle.jasminc_words.specs.Wanted.{check, ct, file_of}
 use Rattle.jasminc_check.specs.Causes as checks
 use Rattle.jasminc_check.specs.Answers as checked
+use Rattle.jasminc_ct.specs.Causes as judgements
+use Rattle.jasminc_ct.specs.Answers as judged
 use Rattle.jasminc_interp.specs.Causes as runs
 use Rattle.jasminc_interp.specs.Answers as answers
 use Rattle.jasminc_interp.specs.declared.telling.Ran as source
@@ -37,7 +39,7 @@ use Rattle.jasminc_top.specs.declared.refusal.Refusal.{Refusal}
 use Rattle.jasminc_top.specs.declared.refusal.Refusal.TheVariants.{Usage, ReadFault, Source}
 use Rattle.jasminc_top.specs.declared.refusal.Refusal.TheVariants.{Lex, Parse, Typing, NoFunction}
 use Rattle.jasminc_top.specs.declared.refusal.Refusal.TheVariants.{Limit, Alarm, NoPlace, Items}
-use Rattle.jasminc_top.specs.declared.refusal.Refusal.TheVariants.{Interp, Disasm, Check}
+use Rattle.jasminc_top.specs.declared.refusal.Refusal.TheVariants.{Interp, Disasm, Check, Ct}
 use Rattle.jasminc_top.specs.declared.answer.Reply.{Reply}
 
 -- the longest text that is read
@@ -117,6 +119,12 @@ CheckCause text Source = source_limit < length text
 CheckCause text (Check r) = checks.Cause text r
 CheckCause text r = ⊥
 
+-- why the export functions of a text are not all constant time
+abbrev pub CtCause : List ℕ → Refusal → Type 0
+CtCause text Source = source_limit < length text
+CtCause text (Ct r) = judgements.Cause text r
+CtCause text r = ⊥
+
 -- words that are no command have one cause, whatever the text
 abbrev pub IsUsage : Refusal → Type 0
 IsUsage r = r ≡ Usage
@@ -129,6 +137,7 @@ Cause (Some (exec call)) text = ExecCause call.fun (words_of call.items) text
 Cause (Some (interp call)) text = InterpCause call text
 Cause (Some (disasm file)) text = DisasmCause text
 Cause (Some (check file)) text = CheckCause text
+Cause (Some (ct file)) text = CtCause text
 
 -- no stage before this one has a cause
 abbrev pub Clear : (Refusal → Type 0) → ℕ → Type 0
@@ -203,12 +212,20 @@ pub record GivesChecks (text : List ℕ) (s : Status) (output : List ℕ) (made 
   pub ok : s ≡ status.Ok
   pub none : made ≡ []
 
+-- a line for each export function, each of which is constant time; nothing is made
+pub record GivesJudgements (text : List ℕ) (s : Status) (output : List ℕ) (made : List Compiled)
+    : Type 0 where
+  pub gives : judged.Gives text output
+  pub ok : s ≡ status.Ok
+  pub none : made ≡ []
+
 abbrev pub Gives : Wanted → List ℕ → Status → List ℕ → List Compiled → Type 0
 Gives (compile file) text s output made = GivesListing text s output made
 Gives (exec call) text s output made = GivesRun text call s output made
 Gives (interp call) text s output made = GivesOutcome text call s output made
 Gives (disasm file) text s output made = GivesDisassembly text s output made
 Gives (check file) text s output made = GivesChecks text s output made
+Gives (ct file) text s output made = GivesJudgements text s output made
 
 -- the statuses of what a command gives
 abbrev pub IsResult : Status → Type 0

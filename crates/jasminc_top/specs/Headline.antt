@@ -14,8 +14,9 @@ use Rattle.x64_machine.specs.Steps.{steps_of}
 use Rattle.jz_disasm_text.specs.Shown.{Shows}
 use Rattle.jz_items.specs.Items.{words_of}
 use Rattle.jasminc_words.specs.Wanted.{Called, Wanted, compile, exec, interp, disasm}
-use Rattle.jasminc_words.specs.Wanted.{check}
+use Rattle.jasminc_words.specs.Wanted.{check, ct}
 use Rattle.jasminc_check.specs.Answers as checked
+use Rattle.jasminc_ct.specs.Answers as judged
 use Rattle.jasminc_interp.specs.Answers as answers
 use Rattle.jasminc_interp.specs.declared.telling.Ran as source
 use Rattle.jasminc_top.specs.Making.{TypesAs}
@@ -45,6 +46,7 @@ Compiles (Some (exec call)) told sink made = ⊤
 Compiles (Some (interp call)) told sink made = ⊤
 Compiles (Some (disasm file)) told sink made = ⊤
 Compiles (Some (check file)) told sink made = ⊤
+Compiles (Some (ct file)) told sink made = ⊤
 
 -- The function of that name is compiled correctly, the words of the items meet its preconditions,
 -- and `exec` starts it at a start on these words and a memory of the return slot alone.
@@ -103,6 +105,7 @@ Executes (Some (exec call)) told sink made = PrintsRun call told sink made
 Executes (Some (interp call)) told sink made = ⊤
 Executes (Some (disasm file)) told sink made = ⊤
 Executes (Some (check file)) told sink made = ⊤
+Executes (Some (ct file)) told sink made = ⊤
 
 -- The file's text reads as a program in the whole language that is typed, its export functions are
 -- within the limits of expansion, and what was written is what this status tells of the run of the
@@ -126,6 +129,7 @@ Interprets (Some (exec call)) told sink = ⊤
 Interprets (Some (interp call)) told sink = PrintsOutcome call told sink status.Ok
 Interprets (Some (disasm file)) told sink = ⊤
 Interprets (Some (check file)) told sink = ⊤
+Interprets (Some (ct file)) told sink = ⊤
 
 -- a run that is stuck, as none but one of `interp` is
 abbrev pub IsStuck : Option Wanted → SourceTold → SinkTold → Type 0
@@ -135,6 +139,7 @@ IsStuck (Some (exec call)) told sink = ⊥
 IsStuck (Some (interp call)) told sink = PrintsOutcome call told sink status.Stuck
 IsStuck (Some (disasm file)) told sink = ⊥
 IsStuck (Some (check file)) told sink = ⊥
+IsStuck (Some (ct file)) told sink = ⊥
 
 -- a run that was cut, as none but one of `exec` and `interp` is
 abbrev pub IsCut : Option Wanted → SourceTold → SinkTold → List Compiled → Type 0
@@ -144,6 +149,7 @@ IsCut (Some (exec call)) told sink made = PrintsCut call told sink made
 IsCut (Some (interp call)) told sink made = PrintsOutcome call told sink status.OutOfFuel
 IsCut (Some (disasm file)) told sink made = ⊥
 IsCut (Some (check file)) told sink made = ⊥
+IsCut (Some (ct file)) told sink made = ⊥
 
 -- What was written is the disassembly of the file's text: of each function of the listing that it
 -- is, or of the bytes of which it is the hexadecimal text; and nothing else.
@@ -162,6 +168,7 @@ Disassembles (Some (exec call)) told sink = ⊤
 Disassembles (Some (interp call)) told sink = ⊤
 Disassembles (Some (disasm file)) told sink = PrintsDisassembly file told sink
 Disassembles (Some (check file)) told sink = ⊤
+Disassembles (Some (ct file)) told sink = ⊤
 
 -- The file's text reads as a program that is typed, its export functions are within the limits and
 -- safe, and what was written is a line for each of them; and nothing else.
@@ -180,3 +187,23 @@ Checks (Some (exec call)) told sink = ⊤
 Checks (Some (interp call)) told sink = ⊤
 Checks (Some (disasm file)) told sink = ⊤
 Checks (Some (check file)) told sink = PrintsChecks file told sink
+Checks (Some (ct file)) told sink = ⊤
+
+-- The file's text reads as a program that is typed, its export functions are within the limits and
+-- constant time, and what was written is a line for each of them; and nothing else.
+pub record PrintsJudgements (file : List ℕ) (told : SourceTold) (sink : SinkTold) : Type 0 where
+  pub text : List ℕ
+  pub has : HasFile file told.files text
+  pub output : List ℕ
+  pub done : judged.IsDone text output
+  pub wrote : Appends sink.bytes sink.bytes_after output
+
+-- the same of a command; it speaks of `ct` alone
+abbrev pub Judges : Option Wanted → SourceTold → SinkTold → Type 0
+Judges None told sink = ⊤
+Judges (Some (compile file)) told sink = ⊤
+Judges (Some (exec call)) told sink = ⊤
+Judges (Some (interp call)) told sink = ⊤
+Judges (Some (disasm file)) told sink = ⊤
+Judges (Some (check file)) told sink = ⊤
+Judges (Some (ct file)) told sink = PrintsJudgements file told sink

@@ -2,6 +2,7 @@ pub mod Lines
 pub mod InterpLines
 pub mod DisasmLines
 pub mod CheckLines
+pub mod CtLines
 pub mod Refusals
 pub mod Making
 pub mod Told

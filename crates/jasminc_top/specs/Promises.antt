@@ -5,7 +5,7 @@ use Rattle.jasminc_top.specs.Refusals.{status_of}
 use Rattle.jasminc_top.specs.Answers.{IsQuiet}
 use Rattle.jasminc_top.specs.Runs.{Run, Runs, ComesOnly, Refuses, Completes, ReadsAll, IsFree}
 use Rattle.jasminc_top.specs.Headline.{Compiles, Executes, Interprets, IsStuck, IsCut}
-use Rattle.jasminc_top.specs.Headline.{Disassembles, Checks}
+use Rattle.jasminc_top.specs.Headline.{Disassembles, Checks, Judges}
 use Rattle.jasminc_top.specs.declared.refusal.Refusal.{Refusal}
 use Rattle.jasminc_top.specs.declared.refusal.Status.TheVariants as status
 
@@ -29,6 +29,8 @@ pub record KeepsPromises (run : Run) : Type 0 where
   pub disassembles : run.done.status ≡ status.Ok → Disassembles run.wish run.source run.sink
   -- What `check` prints at Ok is that each export function of its file is safe.
   pub checks : run.done.status ≡ status.Ok → Checks run.wish run.source run.sink
+  -- What `ct` prints at Ok is that each export function of its file is constant time.
+  pub judges : run.done.status ≡ status.Ok → Judges run.wish run.source run.sink
   -- The status of a refusal comes only with its cause, and that of a write fault with one.
   pub comes_only : (r : Refusal)
       → run.done.status ≡ status_of r → ComesOnly run.wish run.source run.done.status

@@ -6,7 +6,7 @@ use Rattle.jasminc_top.specs.declared.refusal.Refusal.{Refusal}
 use Rattle.jasminc_top.specs.declared.refusal.Refusal.TheVariants.{Usage, ReadFault, Source}
 use Rattle.jasminc_top.specs.declared.refusal.Refusal.TheVariants.{Lex, Parse, Typing, NoFunction}
 use Rattle.jasminc_top.specs.declared.refusal.Refusal.TheVariants.{Limit, Alarm, NoPlace, Items}
-use Rattle.jasminc_top.specs.declared.refusal.Refusal.TheVariants.{Interp, Disasm, Check}
+use Rattle.jasminc_top.specs.declared.refusal.Refusal.TheVariants.{Interp, Disasm, Check, Ct}
 use Rattle.jasminc_interp.specs.declared.refused.Refused.{Refused}
 use Rattle.jasminc_interp.specs.declared.refused.Refused.TheVariants as refused
 use Rattle.jasminc_source.specs.declared.unread.Unread.{Unread}
@@ -15,11 +15,15 @@ use Rattle.jasminc_interp.specs.Causes as interp
 use Rattle.jasminc_check.specs.declared.refused.Refused as checking
 use Rattle.jasminc_check.specs.declared.refused.Refused.TheVariants as found
 use Rattle.jasminc_check.specs.Causes as checks
+use Rattle.jasminc_ct.specs.declared.refused.Refused as judging
+use Rattle.jasminc_ct.specs.declared.refused.Refused.TheVariants as judged
+use Rattle.jasminc_ct.specs.Causes as judgements
 use Rattle.jz_disasm_text.specs.declared.Fault.{Fault}
 use Rattle.jz_disasm_text.specs.declared.Fault.TheVariants as fault
 use Rattle.jasminc_top.specs.InterpLines.{refused_text}
 use Rattle.jasminc_top.specs.DisasmLines.{fault_text}
 use Rattle.jasminc_top.specs.CheckLines.{unsafe_text}
+use Rattle.jasminc_top.specs.CtLines.{breached_text}
 use Rattle.jasminc_top.specs.Lines.{lexer_line, parser_line, type_line}
 use Rattle.jasminc_top.specs.Lines.{limit_line, alarm_line, no_place_line}
 
@@ -45,6 +49,11 @@ status_of_unsafe (found.Unread u) = status_of_unread u
 status_of_unsafe (found.Limit l) = status.Limit
 status_of_unsafe (found.Alarm a) = status.Alarm
 
+abbrev pub status_of_breached : judging.Refused → Status
+status_of_breached (judged.Unread u) = status_of_unread u
+status_of_breached (judged.Limit l) = status.Limit
+status_of_breached (judged.Breach b) = status.CtNo
+
 abbrev pub status_of : Refusal → Status
 status_of Usage = status.Usage
 status_of ReadFault = status.ReadFault
@@ -60,6 +69,7 @@ status_of Items = status.Precondition
 status_of (Interp r) = status_of_refused r
 status_of (Disasm f) = status_of_fault f
 status_of (Check r) = status_of_unsafe r
+status_of (Ct r) = status_of_breached r
 
 -- the line without its line feed
 abbrev pub cause_text : Refusal → List ℕ
@@ -77,6 +87,7 @@ cause_text Items = codes "precondition items"
 cause_text (Interp r) = refused_text r
 cause_text (Disasm f) = fault_text f
 cause_text (Check r) = unsafe_text r
+cause_text (Ct r) = breached_text r
 
 abbrev pub line_of : Refusal → List ℕ
 line_of r = cause_text r ++ codes "\n"
@@ -99,6 +110,7 @@ stage_of Items = 9
 stage_of (Interp r) = interp.stage_of r
 stage_of (Disasm f) = 2
 stage_of (Check r) = checks.stage_of r
+stage_of (Ct r) = judgements.stage_of r
 
 -- one past the last stage
 abbrev pub all_stages : ℕ

@@ -5,7 +5,7 @@ ghost use Rattle.std.specs.Option.{option_copied};
 ghost use Rattle.jz_first.specs.Failures.{IfRefused, IfAnswered};
 ghost use Rattle.jz_io.specs.Telling.{IsWhole};
 ghost use Rattle.jz_items.specs.Items.{words_of};
-ghost use Rattle.jasminc_words.specs.Wanted.{compile, exec, interp, disasm, check};
+ghost use Rattle.jasminc_words.specs.Wanted.{compile, exec, interp, disasm, check, ct};
 ghost use Rattle.jasminc_words.specs.Wanted.{called_of, wanted_of};
 ghost use Rattle.jasminc_words.specs.Wanted.{texts_of, wanted_command};
 ghost use Rattle.jasminc_top.specs.Making.{TypesAs, IsWritten, AreMade};
@@ -18,6 +18,7 @@ ghost use Rattle.jasminc_top.specs.Answers.{IsSafeOne, IsToldAs, After, Performs
 use crate::refusal::{Refusal, Status};
 use crate::stage::as_refusal;
 use jasminc_check::check_text;
+use jasminc_ct::ct_text;
 use jasminc_exec::{Ran, exec_text, items_are_words};
 use jasminc_interp as source;
 use jasminc_interp::interp_text;
@@ -233,6 +234,20 @@ fn check_reply(alloc: Global, file: &str, text: &[u8]) -> Result<Reply, Failure<
     })
 }
 
+/// Whether the functions of a text are constant time. Nothing is made for it.
+fn ct_reply(alloc: Global, file: &str, text: &[u8]) -> Result<Reply, Failure<Refusal>>
+    requires { length text.now ≤ source_limit }
+    ensures { IfAnswered result (After (Some (ct file.now)) text.now) }
+{
+    let answer = ct_text(alloc, text);
+    let constant = as_refusal(answer, Refusal::Ct)?;
+    Ok(Reply {
+        status: Status::Ok,
+        text: constant,
+        made: Seq::new(alloc),
+    })
+}
+
 /// A request, from the reading on.
 fn perform<S: Source>(
     alloc: Global,
@@ -249,6 +264,7 @@ fn perform<S: Source>(
         Request::Interp(call) => interp_reply(alloc, &call, text.as_slice()),
         Request::Disasm { file } => disasm_reply(alloc, file, text.as_slice()),
         Request::Check { file } => check_reply(alloc, file, text.as_slice()),
+        Request::Ct { file } => ct_reply(alloc, file, text.as_slice()),
     }
 }
 

@@ -4,6 +4,7 @@
 mod answer;
 mod check_lines;
 pub mod correctness;
+mod ct_lines;
 mod disasm_lines;
 mod interp_lines;
 mod lines;

@@ -2,16 +2,18 @@
 
 ghost use Rattle.std.specs.Prelude.{◌≡◌, ◌++◌, IfOk, OnOk, codes, decimal};
 ghost use Rattle.jasminc_top.specs.Refusals.{status_of_unread, status_of_refused, status_of_fault};
-ghost use Rattle.jasminc_top.specs.Refusals.{status_of_unsafe, status_of};
+ghost use Rattle.jasminc_top.specs.Refusals.{status_of_unsafe, status_of_breached, status_of};
 ghost use Rattle.jasminc_top.specs.Refusals.{cause_text, line_of};
 
 use crate::check_lines::write_unsafe;
+use crate::ct_lines::write_breached;
 use crate::disasm_lines::write_disasm_fault;
 use crate::interp_lines::write_refused;
 use crate::lines::{
     write_alarm, write_lex_fault, write_limit, write_no_place, write_syntax_fault, write_type_fault,
 };
 use jasminc_check as checking;
+use jasminc_ct as judging;
 use jasminc_interp::Refused;
 use jasminc_source::Unread;
 use jz_disasm_text::Fault;
@@ -73,6 +75,8 @@ pub enum Refusal {
     Disasm(Fault),
     /// An export function of a text is not safe.
     Check(checking::Refused),
+    /// An export function of a text is not constant time.
+    Ct(judging::Refused),
 }
 
 fn status_of_unread(unread: Unread) -> Status
@@ -117,6 +121,17 @@ fn status_of_unsafe(refused: &checking::Refused) -> Status
     }
 }
 
+/// The status of a text whose functions are not all constant time.
+fn status_of_breached(refused: &judging::Refused) -> Status
+    ensures { result ≡ status_of_breached refused.now }
+{
+    match refused {
+        judging::Refused::Unread(unread) => status_of_unread(*unread),
+        judging::Refused::Limit(_) => Status::Limit,
+        judging::Refused::Breach(_) => Status::CtNo,
+    }
+}
+
 impl Refusal {
     /// The status that it ends a command with.
     pub fn status(&self) -> Status
@@ -135,6 +150,7 @@ impl Refusal {
             Refusal::Interp(refused) => status_of_refused(refused),
             Refusal::Disasm(fault) => status_of_fault(*fault),
             Refusal::Check(refused) => status_of_unsafe(refused),
+            Refusal::Ct(refused) => status_of_breached(refused),
         }
     }
 
@@ -160,6 +176,7 @@ impl Refusal {
             Refusal::Interp(refused) => write_refused(line, refused),
             Refusal::Disasm(fault) => write_disasm_fault(line, *fault),
             Refusal::Check(refused) => write_unsafe(line, refused),
+            Refusal::Ct(refused) => write_breached(line, refused),
         }
     }
 

@@ -8,7 +8,7 @@ use Rattle.jasminc_words.specs.Commands.{jasminc_app}
 use Rattle.jz_items.specs.declared.item.Item.{Item}
 use Rattle.jz_items.specs.Items.{ItemsFit}
 use Rattle.jz_items.proofs.Fitting.{word_fits, items_fit}
-use Rattle.jasminc_words.specs.Wanted.{Called, Wanted, compile, exec, interp, disasm, check, HasFit, HasNumbers, number_or, fuel_in, items_in, call_of, call_in, wanted_in, none_or, wanted_command}
+use Rattle.jasminc_words.specs.Wanted.{Called, Wanted, compile, exec, interp, disasm, check, ct, HasFit, HasNumbers, number_or, fuel_in, items_in, call_of, call_in, wanted_in, none_or, wanted_command}
 
 fuel_fits : (o : Option Text) (n : ℕ) → number_or 1000000 o ≡ Some n → n < 2 ^ 64
 fuel_fits None n e = let same : 1000000 ≡ n = cc in subst (λ k. k < 2 ^ 64) same (lit< tt)
@@ -53,21 +53,31 @@ check_fits : (file : Option Text) (wish : Wanted) → option_map check file ≡ 
 check_fits None wish e = cc
 check_fits (Some file) wish e = let same : check file ≡ wish = cc in subst HasNumbers same tt
 
-by_name : (a b d f g : Bool) (file : Option Text) (o : Option Called) (wish : Wanted)
+ct_fits : (file : Option Text) (wish : Wanted) → option_map ct file ≡ Some wish → HasNumbers wish
+ct_fits None wish e = cc
+ct_fits (Some file) wish e = let same : ct file ≡ wish = cc in subst HasNumbers same tt
+
+-- the commands that ask of a file whether its functions are safe, or constant time
+by_question : (g h : Bool) (file : Option Text) (wish : Wanted)
+    → (if g then option_map check file else (if h then option_map ct file else None)) ≡ Some wish → HasNumbers wish
+by_question true h file wish e = check_fits file wish e
+by_question false true file wish e = ct_fits file wish e
+by_question false false file wish e = cc
+
+by_name : (a b d f g k : Bool) (file : Option Text) (o : Option Called) (wish : Wanted)
     → (if a then option_map compile file else (if b then option_map exec o else (if d then option_map interp o else (if f then option_map disasm file
-    else (if g then option_map check file else None))))) ≡ Some wish
+    else (if g then option_map check file else (if k then option_map ct file else None)))))) ≡ Some wish
     → ((call : Called) → o ≡ Some call → HasFit call) → HasNumbers wish
-by_name true b d f g file o wish e h = compile_fits file wish e
-by_name false true d f g file o wish e h = exec_fits o wish e h
-by_name false false true f g file o wish e h = interp_fits o wish e h
-by_name false false false true g file o wish e h = disasm_fits file wish e
-by_name false false false false true file o wish e h = check_fits file wish e
-by_name false false false false false file o wish e h = cc
+by_name true b d f g k file o wish e h = compile_fits file wish e
+by_name false true d f g k file o wish e h = exec_fits o wish e h
+by_name false false true f g k file o wish e h = interp_fits o wish e h
+by_name false false false true g k file o wish e h = disasm_fits file wish e
+by_name false false false false g k file o wish e h = by_question g k file wish e
 
 rows_fit : (rows : Option (Text × List Row)) (wish : Wanted) → wanted_in rows ≡ Some wish → HasNumbers wish
 rows_fit None wish e = cc
 rows_fit (Some p) wish e =
-    by_name (bytes_eq p.0 (codes "compile")) (bytes_eq p.0 (codes "exec")) (bytes_eq p.0 (codes "interp")) (bytes_eq p.0 (codes "disasm")) (bytes_eq p.0 (codes "check")) (first_of (codes "FILE") p.1) (call_in p.1) wish e
+    by_name (bytes_eq p.0 (codes "compile")) (bytes_eq p.0 (codes "exec")) (bytes_eq p.0 (codes "interp")) (bytes_eq p.0 (codes "disasm")) (bytes_eq p.0 (codes "check")) (bytes_eq p.0 (codes "ct")) (first_of (codes "FILE") p.1) (call_in p.1) wish e
     (λ call h. call_fits p.1 call h)
 
 no_faults : {X : Type 0} (faults : List X) (o : Option Wanted) (wish : Wanted) → none_or faults o ≡ Some wish → o ≡ Some wish

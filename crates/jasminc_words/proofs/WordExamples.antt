@@ -2,7 +2,7 @@
 use Rattle.std.proofs.Common.{◌≡◌, [], ◌∷◌, Some, None, refl, codes}
 use Rattle.clap.proofs.OnLiterals.{clap_on_literals}
 use Rattle.jz_items.specs.declared.item.Item.TheVariants.{Number}
-use Rattle.jasminc_words.specs.Wanted.{compile, exec, interp, disasm, check, wanted_command}
+use Rattle.jasminc_words.specs.Wanted.{compile, exec, interp, disasm, check, ct, wanted_command}
 
 pub a_file : wanted_command (codes "jasminc" ∷ codes "compile" ∷ codes "a" ∷ []) ≡ Some (compile (codes "a"))
 unfolding wanted_command clap_on_literals
@@ -15,6 +15,10 @@ a_listing = refl
 pub a_question : wanted_command (codes "jasminc" ∷ codes "check" ∷ codes "a" ∷ []) ≡ Some (check (codes "a"))
 unfolding wanted_command clap_on_literals
 a_question = refl
+
+pub another_question : wanted_command (codes "jasminc" ∷ codes "ct" ∷ codes "a" ∷ []) ≡ Some (ct (codes "a"))
+unfolding wanted_command clap_on_literals
+another_question = refl
 
 pub no_file : wanted_command (codes "jasminc" ∷ codes "compile" ∷ []) ≡ None
 unfolding wanted_command clap_on_literals

@@ -62,5 +62,5 @@ run_commands =
 
 abbrev pub jasminc_app : App
 jasminc_app =
-    with_subcommand (with_subcommand run_commands (file_app (codes "disasm")).top)
-    (file_app (codes "check")).top
+    with_subcommand (with_subcommand (with_subcommand run_commands (file_app (codes "disasm")).top)
+    (file_app (codes "check")).top) (file_app (codes "ct")).top

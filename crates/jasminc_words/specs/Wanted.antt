@@ -27,6 +27,7 @@ pub data Wanted : Type 0 where
   interp : Called → Wanted
   disasm : List ℕ → Wanted
   check : List ℕ → Wanted
+  ct : List ℕ → Wanted
 
 abbrev pub file_of : Wanted → List ℕ
 file_of (compile file) = file
@@ -34,6 +35,7 @@ file_of (exec call) = call.file
 file_of (interp call) = call.file
 file_of (disasm file) = file
 file_of (check file) = file
+file_of (ct file) = file
 
 abbrev pub texts_of : List (String Global) → List (List ℕ)
 texts_of words = map string_bytes words
@@ -48,6 +50,7 @@ wanted_of (request.Exec call) = exec (called_of call)
 wanted_of (request.Interp call) = interp (called_of call)
 wanted_of (request.Disasm file) = disasm file.now
 wanted_of (request.Check file) = check file.now
+wanted_of (request.Ct file) = ct file.now
 
 -- ---- what matches ask for
 -- without `--fuel`
@@ -84,7 +87,8 @@ named name rows =
     else (if bytes_eq name (codes "exec") then option_map exec (call_in rows)
     else (if bytes_eq name (codes "interp") then option_map interp (call_in rows)
     else (if bytes_eq name (codes "disasm") then option_map disasm (file_in rows)
-    else (if bytes_eq name (codes "check") then option_map check (file_in rows) else None))))
+    else (if bytes_eq name (codes "check") then option_map check (file_in rows)
+    else (if bytes_eq name (codes "ct") then option_map ct (file_in rows) else None)))))
 
 abbrev pub wanted_in : Option (Text × List Row) → Option Wanted
 wanted_in rows = option_and_then (λ p. named p.0 p.1) rows
@@ -111,3 +115,4 @@ HasNumbers (exec call) = HasFit call
 HasNumbers (interp call) = HasFit call
 HasNumbers (disasm file) = ⊤
 HasNumbers (check file) = ⊤
+HasNumbers (ct file) = ⊤

@@ -75,7 +75,8 @@ fn jasminc<'a>(alloc: Global) -> Result<Command<'a>, AllocError>
     let with_exec = with_compile.subcommand(run(alloc, "exec")?)?;
     let with_interp = with_exec.subcommand(run(alloc, "interp")?)?;
     let with_disasm = with_interp.subcommand(of_file(alloc, "disasm")?)?;
-    with_disasm.subcommand(of_file(alloc, "check")?)
+    let with_check = with_disasm.subcommand(of_file(alloc, "check")?)?;
+    with_check.subcommand(of_file(alloc, "ct")?)
 }
 
 /// There are matches exactly where no step of the command's parse fails.

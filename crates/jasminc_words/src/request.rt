@@ -3,7 +3,7 @@
 ghost use Rattle.std.specs.Prelude.{◌≡◌, IfOk, map};
 ghost use Rattle.std.specs.Option.{option_map};
 ghost use Rattle.clap.specs.Words.{rows_of, found_of, first_of, all_of, subcommand_rows_of};
-ghost use Rattle.jasminc_words.specs.Wanted.{compile, exec, interp, disasm, check, file_of};
+ghost use Rattle.jasminc_words.specs.Wanted.{compile, exec, interp, disasm, check, ct, file_of};
 ghost use Rattle.jasminc_words.specs.Wanted.{texts_of};
 ghost use Rattle.jasminc_words.specs.Wanted.{called_of, wanted_of, fuel_in, items_in, call_in};
 ghost use Rattle.jasminc_words.specs.Wanted.{file_in, wanted_in, wanted_command};
@@ -37,6 +37,8 @@ pub enum Request<'a> {
     Disasm { file: &'a str },
     /// Whether each export function is safe.
     Check { file: &'a str },
+    /// Whether each export function is constant time.
+    Ct { file: &'a str },
 }
 
 impl<'a> Request<'a> {
@@ -46,7 +48,7 @@ impl<'a> Request<'a> {
     {
         match self {
             Request::Compile { file } | Request::Disasm { file } => file,
-            Request::Check { file } => file,
+            Request::Check { file } | Request::Ct { file } => file,
             Request::Exec(call) => call.file,
             Request::Interp(call) => call.file,
         }
@@ -162,6 +164,14 @@ fn check_request<'a>(inner: &ArgMatches<'a>) -> Option<Request<'a>>
     Some(Request::Check { file })
 }
 
+fn ct_request<'a>(inner: &ArgMatches<'a>) -> Option<Request<'a>>
+    ensures { option_map wanted_of result
+        ≡ option_map ct (file_in (rows_of (found_of inner.now))) }
+{
+    let file = value(inner, "FILE")?;
+    Some(Request::Ct { file })
+}
+
 /// What matches ask for.
 fn asked<'a>(alloc: Global, matches: &ArgMatches<'a>) -> Result<Option<Request<'a>>, AllocError>
     ensures { IfOk result (λ request. option_map wanted_of request
@@ -173,6 +183,7 @@ fn asked<'a>(alloc: Global, matches: &ArgMatches<'a>) -> Result<Option<Request<'
         Some(("interp", inner)) => interp_request(alloc, inner),
         Some(("disasm", inner)) => Ok(disasm_request(inner)),
         Some(("check", inner)) => Ok(check_request(inner)),
+        Some(("ct", inner)) => Ok(ct_request(inner)),
         _ => Ok(None),
     }
 }

@@ -3,5 +3,4 @@ pub mod Overlays
 pub mod Blocks
 pub mod Choices
 pub mod Loops
-pub mod Entered
 pub mod Answered

@@ -23,8 +23,7 @@ use Rattle.jz_drawn_labels.proofs.Lefts.{same_view}
 use Rattle.jz_drawn_labels.proofs.Sheets.{arrows_long}
 use Rattle.jz_drawn_heads.specs.declared.heads.Head.{Head}
 use Rattle.jz_drawn_heads.specs.Pieces.{condition_at, turn_piece, Covers, back_arrows, HasHeads}
-use Rattle.jz_breaches.specs.InnerPieces.{is_truth}
-use Rattle.jz_breaches.specs.InnerLoops.{TurnDrawn}
+use Rattle.jz_breaches.specs.InnerLoops.{is_truth, TurnDrawn}
 use Rattle.jz_drawn_heads.proofs.LoopHeads.{comes_back}
 use Rattle.jz_breaches.proofs.LaidOver.{risen_from}
 use Rattle.jz_breaches.proofs.Blocks.{drew_drawn}

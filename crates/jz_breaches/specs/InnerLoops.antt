@@ -1,7 +1,8 @@
 -- Statements with bodies, as the code draws them.
-use Rattle.std.specs.Prelude.{◌≡◌, ◌++◌, List, Option}
+use Rattle.std.specs.Prelude.{◌≡◌, ◌++◌, Bool, false, List, Option}
 use Rattle.jz_tree.specs.declared.stmt.Stmt.{Stmt}
 use Rattle.jz_meaning.specs.Runs.{block}
+use Rattle.jz_terms.specs.Terms.{Term, truth}
 use Rattle.jz_layers.specs.Layered.{seen}
 use Rattle.jz_drawing.specs.Drawings.{View}
 use Rattle.jz_drawing.specs.Draws.{Draws}
@@ -12,6 +13,10 @@ use Rattle.jz_drawn_arms.specs.declared.arms.Arm.{Arm}
 use Rattle.jz_drawn_heads.specs.declared.heads.Head.{Head}
 use Rattle.jz_drawn_heads.specs.Pieces.{turn_piece, back_arrows}
 use Rattle.jz_drawn_arms.specs.Meetings.{behind_arm}
+
+abbrev pub is_truth : Term → Bool
+is_truth (truth b at) = b
+is_truth t = false
 
 -- what was laid over the labels is taken away: they are those before it
 pub record IsBack (old new : Drawing) : Type 0 where

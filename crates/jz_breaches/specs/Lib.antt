@@ -1,4 +1,3 @@
-pub mod InnerPieces
 pub mod InnerLoops
 pub mod Answers
 pub use Rattle.jz_drawing.specs.Draws

@@ -9,8 +9,8 @@ ghost use Rattle.jz_drawing.specs.Drawings.{IsFree};
 ghost use Rattle.jz_drawn_labels.specs.Kept.{asked_of};
 ghost use Rattle.jz_breaches.specs.Answers.{plain_block, told};
 
-use crate::entry::entry;
 use crate::statements::draw_block;
+use jz_drawn_entries::entry;
 use jz_drawn_labels::Ask;
 use jz_required::Required;
 use jz_secrets::{Secrets, secrets_of};

@@ -2,7 +2,6 @@
 #![tactic(auto)]
 
 mod breach;
-mod entry;
 mod statements;
 
 pub use breach::first_breach;

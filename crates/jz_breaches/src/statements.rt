@@ -10,9 +10,8 @@ ghost use Rattle.jz_drawing.specs.Drawings.{asks_in, with_asked};
 ghost use Rattle.jz_drawn_labels.specs.Kept.{view_of};
 ghost use Rattle.jz_drawn_labels.specs.Drew.{no_callees, IsDrawn, Drew};
 ghost use Rattle.jz_drawn_heads.specs.Pieces.{kind_piece, turn_piece, condition_at};
-ghost use Rattle.jz_breaches.specs.InnerPieces.{is_truth};
 ghost use Rattle.jz_drawn_heads.specs.Pieces.{Covers, keys_of};
-ghost use Rattle.jz_breaches.specs.InnerLoops.{ArmDrawn, TurnDrawn};
+ghost use Rattle.jz_breaches.specs.InnerLoops.{is_truth, ArmDrawn, TurnDrawn};
 
 use jz_drawn_arms::{Arm, end_arm, meet};
 use jz_drawn_heads::{Head, Target, come_back, scalars_set, split, turn_sets};

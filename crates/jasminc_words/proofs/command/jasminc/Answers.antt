@@ -10,4 +10,5 @@ returns c =
     let two = adds _ (run_app (codes "exec")) _ _ _ one c.in_ok-run.ensures c.in_ok-with_exec.ensures in
     let three = adds _ (run_app (codes "interp")) _ _ _ two c.in_ok-run-2.ensures c.in_ok-with_interp.ensures in
     let four = adds _ (file_app (codes "disasm")) _ _ _ three c.in_ok-of_file-2.ensures c.in_ok-with_disasm.ensures in
-    IfOk-weaker c.subcommand-5.result _ _ (λ r h. adds _ (file_app (codes "check")) _ _ r four c.in_ok-of_file-3.ensures h) c.subcommand-5.ensures
+    let five = adds _ (file_app (codes "check")) _ _ _ four c.in_ok-of_file-3.ensures c.in_ok-with_check.ensures in
+    IfOk-weaker c.subcommand-6.result _ _ (λ r h. adds _ (file_app (codes "ct")) _ _ r five c.in_ok-of_file-4.ensures h) c.subcommand-6.ensures

@@ -1,6 +1,6 @@
 use Rattle.std.proofs.Common.{ap, sym}
 use Rattle.jz_terms.proofs.TermForms.{term_num, term_bool, term_var, term_cell, term_load, term_neg, term_not, term_cast, term_bin}
-use Rattle.jz_breaches.specs.InnerPieces.{is_truth}
+use Rattle.jz_breaches.specs.InnerLoops.{is_truth}
 use Rattle.jz_breaches.proofs.statements.is_true.Goals as goal
 
 pub returns-in-Num : goal.returns-in-Num

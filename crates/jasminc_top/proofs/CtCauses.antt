@@ -1,0 +1,84 @@
+-- Which cause of `ct` is the first, and when none stands.
+use Rattle.std.proofs.Common.{◌≡◌, ℕ, ◌<◌, ◌≤◌, List, [], length, arith, Some, refl, sym, subst}
+use Rattle.std.specs.Prelude.{Result, Ok, Err, IfErr}
+use Rattle.jz_first.specs.Failure.{Failure}
+use Rattle.jz_first.specs.Failure.TheVariants as failure
+use Rattle.jz_first.specs.Failures.{IfRefused, IfAnswered}
+use Rattle.jz_listing.specs.declared.compiled.Compiled.{Compiled}
+use Rattle.jasminc_words.specs.Wanted.{ct}
+use Rattle.jasminc_ct.specs.declared.refused.Refused.{Refused}
+use Rattle.jasminc_ct.specs.declared.refused.Refused.TheVariants as refused
+use Rattle.jasminc_source.specs.declared.unread.Unread.TheVariants as unread
+use Rattle.jasminc_ct.specs.Causes as causes
+use Rattle.jasminc_ct.specs.Answers as answers
+use Rattle.jasminc_top.specs.declared.refusal.Status.TheVariants as status
+use Rattle.jasminc_top.specs.declared.refusal.Refusal.{Refusal}
+use Rattle.jasminc_top.specs.declared.refusal.Refusal.TheVariants.{Usage, ReadFault, Source, Lex, Parse, Typing, NoFunction, Limit, Alarm, NoPlace, Items, Interp, Disasm, Check, Ct}
+use Rattle.jasminc_top.specs.declared.answer.Reply.{Reply}
+use Rattle.jasminc_top.specs.Refusals.{all_stages}
+use Rattle.jasminc_top.specs.Stage.{ComesFrom}
+use Rattle.jasminc_top.specs.Answers.{source_limit, CtCause, Clear, IsFirstCause, IsDone, After}
+use Rattle.jasminc_top.proofs.Stopping.{stage_refuses}
+
+cleared : (text : List ℕ) (n : ℕ) → length text ≤ source_limit → causes.Clear text n → Clear (CtCause text) n
+cleared text n short clear Usage lt c = c
+cleared text n short clear ReadFault lt c = c
+cleared text n short clear Source lt c = absurd (omega (arith, short, c))
+cleared text n short clear (Lex fault) lt c = c
+cleared text n short clear (Parse fault) lt c = c
+cleared text n short clear (Typing fault) lt c = c
+cleared text n short clear (NoFunction name) lt c = c
+cleared text n short clear (Limit l) lt c = c
+cleared text n short clear (Alarm a) lt c = c
+cleared text n short clear (NoPlace r) lt c = c
+cleared text n short clear Items lt c = c
+cleared text n short clear (Interp r) lt c = c
+cleared text n short clear (Disasm f) lt c = c
+cleared text n short clear (Check r) lt c = c
+cleared text n short clear (Ct r) lt c = clear r lt c
+
+-- each cause is among the stages
+early : (r : Refused) → causes.stage_of r < answers.all_stages
+early (refused.Unread (unread.Lex fault)) = omega arith
+early (refused.Unread (unread.Parse fault)) = omega arith
+early (refused.Unread (unread.Typing fault)) = omega arith
+early (refused.Limit l) = omega arith
+early (refused.Breach b) = omega arith
+
+all_cleared : (text : List ℕ) → causes.Clear text answers.all_stages → causes.Clear text all_stages
+all_cleared text clear r lt c = clear r (early r) c
+
+first_cause : (text : List ℕ) → length text ≤ source_limit → (r : Refused) → causes.IsFirstCause text r → IsFirstCause (CtCause text) (Ct r)
+first_cause text short r h = record { cause = h.cause; first = cleared text (causes.stage_of r) short h.first }
+
+-- ---- the answer of the stages
+says_refused : (text : List ℕ) (answer : Result (List ℕ) (Failure Refused)) → IfAnswered answer (answers.Answers text) → IfErr answer (λ d. IfRefused d (causes.IsFirstCause text))
+says_refused text (Ok x) h = tt
+says_refused text (Err (failure.Refused r)) h = h
+says_refused text (Err failure.OutOfMemory) h = tt
+
+says_done : (text : List ℕ) (answer : Result (List ℕ) (Failure Refused)) (out : List ℕ) → answer ≡ Ok out → IfAnswered answer (answers.Answers text) → answers.IsDone text out
+says_done text answer out is h = subst (λ (a : Result (List ℕ) (Failure Refused)). IfAnswered a (answers.Answers text)) is h
+
+failed : (file text : List ℕ) (e : Failure Refusal) → IfRefused e (IsFirstCause (CtCause text)) → IfAnswered {A = Reply} (Err e) (After (Some (ct file)) text)
+failed file text (failure.Refused r) h = h
+failed file text failure.OutOfMemory h = tt
+
+pub ct_fails : (file text : List ℕ) (Becomes : Refused → Refusal → Type 0) (answer : Result (List ℕ) (Failure Refused)) (e : Failure Refusal) → length text ≤ source_limit
+    → IfAnswered answer (answers.Answers text) → ((r : Refused) (q : Refusal) → Becomes r q → q ≡ Ct r) → IfRefused e (ComesFrom Becomes answer)
+    → IfAnswered {A = Reply} (Err e) (After (Some (ct file)) text)
+ct_fails file text Becomes answer e short h becomes from =
+    failed file text e
+    (stage_refuses (causes.IsFirstCause text) Becomes (IsFirstCause (CtCause text)) answer e (says_refused text answer h)
+    (λ r q says b. subst (IsFirstCause (CtCause text)) (sym (becomes r q b)) (first_cause text short r says)) from)
+
+pub ct_done : (file text : List ℕ) (answer : Result (List ℕ) (Failure Refused)) (out : List ℕ) (made : List Compiled) → length text ≤ source_limit → answer ≡ Ok out
+    → IfAnswered answer (answers.Answers text) → made ≡ [] → IsDone (Some (ct file)) text status.Ok out made
+ct_done file text answer out made short is h none =
+    let done = says_done text answer out is h in
+    record {
+      command = ct file;
+      is = refl;
+      clear = cleared text all_stages short (all_cleared text done.clear);
+      gives = record { gives = done.gives; ok = refl; none = none };
+    }

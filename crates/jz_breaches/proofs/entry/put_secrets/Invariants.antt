@@ -1,6 +1,0 @@
-use Rattle.std.proofs.Common.{take}
-use Rattle.jz_breaches.specs.InnerPieces.{HasSecrets}
-use Rattle.jz_breaches.proofs.entry.put_secrets.Given as goal
-
-abbrev pub invariant-loop-param : goal.invariant-loop-param
-invariant-loop-param l = HasSecrets (take l.param-index l.params) l.node l.fn.table l.table

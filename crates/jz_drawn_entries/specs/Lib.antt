@@ -1,0 +1,2 @@
+pub mod InnerEntries
+pub use Rattle.jz_drawn_bodies.specs.Bodies

@@ -1,6 +1,0 @@
-pub mod Frames
-pub mod Declared
-pub mod Homed
-pub mod Parts
-pub mod Bodies
-pub mod Whole
