@@ -40,13 +40,12 @@ use Rattle.jz_scalars.specs.Functions.{function_with_scalars}
 use Rattle.jz_declared.specs.Declared.{Differ}
 use Rattle.jz_distinct.proofs.Differing.{differ_part}
 use Rattle.jz_signature.proofs.StackLemmas.{inline_itself}
-use Rattle.jz_from_text.proofs.Merging.{in_frame}
 use Rattle.jz_ready.specs.CopiedKinds.{callees_of, kind_in, copied_kinds}
 use Rattle.jz_unrollable.proofs.CalledFuns.{funs_are}
 use Rattle.jz_copied_types.proofs.Copying as copying
 use Rattle.jz_total_rows.specs.Variables.{AreOneName}
 use Rattle.jz_copied_variables.specs.Variables.{frame_of, is_lent, own_known, copy_known, known_at, IsSeen}
-use Rattle.jz_expanded_homes.proofs.Frames.{IsCopied, same_copy, wider, in_frames}
+use Rattle.jz_expanded_homes.proofs.Frames.{own_frame, IsCopied, same_copy, wider, in_frames}
 
 -- ---- the variable of a function that has a declaration
 -- a constant is an inline integer
@@ -129,7 +128,7 @@ module _ (p : Program) (f : Fun) where
   own_place plain w h =
       elim (Contains-append_cases params f.vars w h) [
         | inl i ↦ record { own = w; among = Contains-append_left params frame w i; name = refl; copy = ref_copy w ∙ (All-contains IsPlain (variables_of f) w plain h).0; known = refl; kind = refl }
-        | inr i ↦ of_copied w 0 (record { names = own_names; name = refl; there = Contains-append_right params frame (var_in own_names w) (in_frame p.funs (length p.funs) own_names 1 f w i) })
+        | inr i ↦ of_copied w 0 (record { names = own_names; name = refl; there = Contains-append_right params frame (var_in own_names w) (own_frame p.funs (length p.funs) own_names 1 f w i) })
       ]
 
   copy_place : (g : Fun) (c : ℕ) → slice_get (callees_of (body_of p f)) c ≡ Some g → (w : Var) → Contains (variables_of g) w → is_lent g.params (ref_of w).name ≡ false → HasPlace w (suc c)

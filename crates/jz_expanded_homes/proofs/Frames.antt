@@ -18,25 +18,44 @@ use Rattle.jz_inline.specs.Calls.{callee_names}
 use Rattle.jz_inline.proofs.Naming.{NoArray, own_name}
 use Rattle.jz_frames.specs.Frames.{Called, Group, all_in, behind, merged, own_params, copies_in, groups, frame_in, calls_in}
 use Rattle.jz_unrollable.proofs.CalledFuns.{funs_with, funs_in, funs_counted}
-use Rattle.jz_from_text.proofs.Merging.{in_frame}
 use Rattle.jz_copied_variables.specs.Variables.{is_lent}
 
--- ---- what stands between the variables of a function
-by_place : (b : Bool) (h : Group) (v w : Var) (more : List Var) (rest : List Group → List Var) (gs : List Group)
-    → Contains (all_in (h ∷ gs)) w → (Contains (all_in gs) w → Contains more w) → (Contains (all_in (h ∷ gs)) w → Contains (rest (h ∷ gs)) w)
-    → Contains (if b then h.vars ++ more else (v ∷ rest (h ∷ gs))) w
-by_place true h v w more rest gs c deeper later =
-    elim (Contains-append_cases h.vars (all_in gs) w c) [ inl i ↦ Contains-append_left h.vars more w i | inr i ↦ Contains-append_right h.vars more w (deeper i) ]
-by_place false h v w more rest gs c deeper later = Contains-append_right (v ∷ []) (rest (h ∷ gs)) w (later c)
+-- ---- the variables of a function, and what stands between them
+abbrev Stands : Names → List Var → List Group → Var → Type 0
+Stands names vs gs w = Contains (map (var_in names) vs) w ⊎ Contains (all_in gs) w
 
-has_behind : (v w : Var) (at : Span) (rest : List Group → List Var) → ((gs : List Group) → Contains (all_in gs) w → Contains (rest gs) w)
-    → (gs : List Group) → Contains (all_in gs) w → Contains (behind v at rest gs) w
-has_behind v w at rest f [] c = Contains-append_right (v ∷ []) (rest []) w (f [] c)
-has_behind v w at rest f (h ∷ gs) c = by_place (is_before h.at at) h v w (behind v at rest gs) rest gs c (λ i. has_behind v w at rest f gs i) (f (h ∷ gs))
+-- before what stands behind a variable
+module _ (names : Names) (v : Var) (vs : List Var) (w : Var) (rest : List Group → List Var) (later : (gs : List Group) → Stands names vs gs w → Contains (rest gs) w) where
+  here_or : (gs : List Group) → Stands names (v ∷ vs) gs w → Contains (var_in names v ∷ rest gs) w
+  here_or gs (inl (zero, lt, e)) = (0, omega arith, e)
+  here_or gs (inl (suc k, lt, e)) = Contains-append_right (var_in names v ∷ []) (rest gs) w (later gs (inl (k, omega (arith, lt), e)))
+  here_or gs (inr c) = Contains-append_right (var_in names v ∷ []) (rest gs) w (later gs (inr c))
 
-has_merged : (names : Names) (vs : List Var) (gs : List Group) (w : Var) → Contains (all_in gs) w → Contains (merged names vs gs) w
-has_merged names [] gs w c = c
-has_merged names (v ∷ vs) gs w c = has_behind (var_in names v) w (out-Var v).span (merged names vs) (λ hs i. has_merged names vs hs w i) gs c
+  by_place : (b : Bool) (h : Group) (gs : List Group) (more : List Var) → (Stands names (v ∷ vs) gs w → Contains more w) → Stands names (v ∷ vs) (h ∷ gs) w
+      → Contains (if b then h.vars ++ more else (var_in names v ∷ rest (h ∷ gs))) w
+  by_place false h gs more deeper s = here_or (h ∷ gs) s
+  by_place true h gs more deeper (inl c) = Contains-append_right h.vars more w (deeper (inl c))
+  by_place true h gs more deeper (inr c) =
+      elim (Contains-append_cases h.vars (all_in gs) w c) [ inl i ↦ Contains-append_left h.vars more w i | inr i ↦ Contains-append_right h.vars more w (deeper (inr i)) ]
+
+  stands_behind : (at : Span) (gs : List Group) → Stands names (v ∷ vs) gs w → Contains (behind (var_in names v) at rest gs) w
+  stands_behind at [] s = here_or [] s
+  stands_behind at (h ∷ gs) s = by_place (is_before h.at at) h gs (behind (var_in names v) at rest gs) (λ t. stands_behind at gs t) s
+
+stands_merged : (names : Names) (vs : List Var) (gs : List Group) (w : Var) → Stands names vs gs w → Contains (merged names vs gs) w
+stands_merged names [] gs w (inl c) = absurd (omega (arith, c.1))
+stands_merged names [] gs w (inr c) = c
+stands_merged names (v ∷ vs) gs w s = stands_behind names v vs w (merged names vs) (λ hs t. stands_merged names vs hs w t) (out-Var v).span gs s
+
+in_copy : (names : Names) (vs : List Var) (k : ℕ) (v : Var) → k < length vs → get_or vs k v ≡ v → Contains (map (var_in names) vs) (var_in names v)
+in_copy names [] k v lt e = absurd (omega (arith, lt))
+in_copy names (x ∷ vs) zero v lt e = (0, omega arith, ap (var_in names) e)
+in_copy names (x ∷ vs) (suc k) v lt e = Contains-append_right (var_in names x ∷ []) (map (var_in names) vs) (var_in names v) (in_copy names vs k v (omega (arith, lt)) e)
+
+-- those of a function stand in its frame
+pub own_frame : (fs : List Fun) (depth : ℕ) (names : Names) (j : ℕ) (f : Fun) (v : Var) → Contains f.vars v → Contains (frame_in fs depth names j f) (var_in names v)
+own_frame fs zero names j f v c = in_copy names f.vars c.0 v c.1 c.2
+own_frame fs (suc d) names j f v c = stands_merged names f.vars (groups (frame_in fs d) (copies_in fs d) names j (calls_in fs (suc d) f.body)) (var_in names v) (inl (in_copy names f.vars c.0 v c.1 c.2))
 
 -- ---- names of parameters
 no_truth : (a b : Bool) → (a || b) ≡ false → (a ≡ false) × (b ≡ false)
@@ -116,7 +135,7 @@ module _ (w : Var) where
         let here : Contains (variables_of c.of) w = subst (λ (x : Fun). Contains (variables_of x) w) (sym e) among in
         let there : Contains (first ++ frame) (var_in inner w) = elim (Contains-append_cases (map (λ (q : Param). q.var) c.of.params) c.of.vars w here) [
           | inl i ↦ Contains-append_left first frame (var_in inner w) (has_own inner c.of.params w i.0 i.1 i.2 none)
-          | inr i ↦ Contains-append_right first frame (var_in inner w) (in_frame fs d inner (suc j) c.of w i)
+          | inr i ↦ Contains-append_right first frame (var_in inner w) (own_frame fs d inner (suc j) c.of w i)
         ] in
         record { names = inner; name = own_name m j c.of.params c.args (ref_of w).name none; there = there }
 
@@ -147,4 +166,4 @@ module _ (w : Var) where
     in_frames (suc d) m j f k e =
         let cs : List Called = calls_in fs (suc d) f.body in
         let gs : List Group = groups (frame_in fs d) (copies_in fs d) m j cs in
-        wider (j + k) (all_in gs) (merged m f.vars gs) (λ y i. has_merged m f.vars gs y i) (in_groups d (in_frames d) m j cs k e)
+        wider (j + k) (all_in gs) (merged m f.vars gs) (λ y i. stands_merged m f.vars gs y (inr i)) (in_groups d (in_frames d) m j cs k e)

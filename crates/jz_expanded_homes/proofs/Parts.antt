@@ -1,5 +1,5 @@
 -- With words in place of cells of register arrays, what is clear and plain is expanded, where its variables have homes.
-use Rattle.std.proofs.Common.{◌≡◌, ℕ, Bool, false, ◌&&◌, Option, Some, None, refl, sym, ap, ◌∙◌, subst, if◌then◌else◌}
+use Rattle.std.proofs.Common.{◌≡◌, ℕ, Bool, true, false, ◌&&◌, Option, Some, None, refl, sym, ap, ◌∙◌, subst, if◌then◌else◌}
 use Rattle.std.specs.Prelude.{option_map}
 use Rattle.jz_tree.specs.Size.{Size}
 use Rattle.jz_tree.specs.Span.{Span}
