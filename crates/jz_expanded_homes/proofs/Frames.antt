@@ -92,10 +92,13 @@ has_own inner (q ∷ ps) w (suc k) lt e n =
     own_later (is_array (ref_of q.var).kind) (var_in inner q.var) (var_in inner w) (own_params inner ps) (has_own inner ps w k (omega (arith, lt)) e n.1)
 
 -- ---- one item of two lists
+one_more : (n k i : ℕ) → k ≡ n + i → suc k ≡ suc n + i
+one_more n k i e = omega (arith, e)
+
 in_parts : (g : Fun) (xs ys : List Fun) (k : ℕ) → slice_get (xs ++ ys) k ≡ Some g → (slice_get xs k ≡ Some g) ⊎ ((i : ℕ) × (k ≡ length xs + i) × (slice_get ys i ≡ Some g))
-in_parts g [] ys k e = inr (k, refl, e)
+in_parts g [] ys k e = let none : k ≡ 0 + k = omega arith in inr (k, none, e)
 in_parts g (x ∷ xs) ys zero e = inl e
-in_parts g (x ∷ xs) ys (suc k) e = elim (in_parts g xs ys k e) [ inl i ↦ inl i | inr r ↦ inr (r.0, ap suc r.1, r.2) ]
+in_parts g (x ∷ xs) ys (suc k) e = elim (in_parts g xs ys k e) [ inl i ↦ inl i | inr r ↦ inr (r.0, one_more (length xs) k r.0 r.1, r.2) ]
 
 same_fun : (x y : Fun) → Some x ≡ Some y → x ≡ y
 same_fun x y e = cc
