@@ -8,7 +8,7 @@ use Rattle.jz_tree.specs.declared.expr.BinOp.{BinOp}
 use Rattle.jz_tree.specs.declared.expr.Expr.{Expr}
 use Rattle.jz_tree.specs.declared.expr.Var.{Var}
 use Rattle.jz_tree.specs.declared.stmt.Lval.{Lval}
-use Rattle.jz_runs.specs.Trees.{done, op}
+use Rattle.jz_runs.specs.Trees.{op}
 use Rattle.jz_meaning.specs.States.{Key}
 use Rattle.jz_meaning.specs.Statements.{assign, Block}
 use Rattle.jz_meaning.specs.Values.{ref_of}

@@ -22,7 +22,7 @@ use Rattle.jz_resolve.specs.Numbering.{constant_decl}
 use Rattle.jz_judgement.proofs.Nothing.{same_some}
 use Rattle.jz_types.specs.Carried.{declared_in, known_in}
 use Rattle.jz_texts.specs.Texts.{IsPlain}
-use Rattle.jz_meaning.specs.Values.{Ref, key_of, ref_of, declared_kind, kind_or}
+use Rattle.jz_meaning.specs.Values.{Ref, ref_of, declared_kind, kind_or}
 use Rattle.jz_meaning.specs.Runs.{body_of}
 use Rattle.jz_typed_runs.specs.TypedTexts.{kinds_in}
 use Rattle.jz_run_laws.specs.Kinds.{part_of}

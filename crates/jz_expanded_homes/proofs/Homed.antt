@@ -1,5 +1,5 @@
 -- A variable of a copy has the home of the variable that it stands for, and so has a cell of an array in registers as a word of its own.
-use Rattle.std.proofs.Common.{◌≡◌, ℕ, zero, suc, ◌<◌, Bool, true, false, List, [], ◌∷◌, length, get_or, Option, Some, None, refl, sym, ap, ◌∙◌, subst, arith, if◌then◌else◌}
+use Rattle.std.proofs.Common.{◌≡◌, ℕ, zero, suc, ◌<◌, Bool, true, false, List, [], ◌∷◌, length, get_or, Option, Some, None, sym, ap, ◌∙◌, arith, if◌then◌else◌}
 use Rattle.std.specs.Prelude.{◌≤◌, All, Contains, slice_get, nat_lt, option_map}
 use Rattle.std.proofs.lemmas.Bool.Decides.{nat_tests}
 use Rattle.jz_tree.specs.Size.{Size}
@@ -22,7 +22,7 @@ use Rattle.jz_type_names.specs.Kinds.{kind_step, kind_of, declared_of, known_of,
 use Rattle.jz_type_names.specs.Scopes.{variables_of}
 use Rattle.jz_texts.specs.Texts.{IsPlain as IsPlainText}
 use Rattle.jz_meaning.specs.declared.access.Kind.TheVariants as kind
-use Rattle.jz_meaning.specs.Values.{Ref, ref_of, declared_kind}
+use Rattle.jz_meaning.specs.Values.{Ref, ref_of}
 use Rattle.jz_run_laws.specs.Kinds.{Kinds}
 use Rattle.jz_bodies.proofs.Refs.{array_declared}
 use Rattle.jz_inlining.specs.Inlined.{inlined_function}

@@ -1,5 +1,5 @@
 -- With words in place of cells of register arrays, what is clear and plain is expanded, where its variables have homes.
-use Rattle.std.proofs.Common.{◌≡◌, ℕ, Bool, true, false, ◌&&◌, Option, Some, None, refl, sym, ap, ◌∙◌, subst, if◌then◌else◌}
+use Rattle.std.proofs.Common.{◌≡◌, ℕ, Bool, true, false, ◌&&◌, Option, Some, None, refl, sym, ap, ◌∙◌, subst}
 use Rattle.std.specs.Prelude.{option_map}
 use Rattle.jz_tree.specs.Size.{Size}
 use Rattle.jz_tree.specs.Span.{Span}
@@ -25,7 +25,7 @@ use Rattle.jz_homes.specs.Homes.{Homes}
 use Rattle.jz_total_rows.specs.Expanded as expanded
 use Rattle.jz_total_rows.specs.Expanded.{HasHome, IsExpanded, IsExpandedLeft}
 use Rattle.jz_total_rows.specs.Laws.{IfExpanded}
-use Rattle.jz_plain_operands.specs.Plain.{IsPlain, IsPlainExpr, expression, IsPlainLayer, a_number, a_truth, a_variable, a_cell, a_load, a_minus, a_denial, a_cast, of_two, IsPlainLeft, to_nothing, to_variable, to_cell, to_memory}
+use Rattle.jz_plain_operands.specs.Plain.{IsPlain, IsPlainExpr, expression, IsPlainLayer, a_variable, a_cell, a_load, a_minus, a_denial, a_cast, of_two, IsPlainLeft, to_variable, to_cell, to_memory}
 use Rattle.jz_plain_expansions.specs.PlainExpansions.{IfPlain}
 use Rattle.jz_plain_expansions.proofs.Clear.{IsClear, clear, IsClearLayer, c_number, c_truth, c_variable, c_cell, c_load, c_minus, c_denial, c_cast, c_two, IfClear, LeftClear}
 
