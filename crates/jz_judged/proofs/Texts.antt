@@ -3,17 +3,12 @@ use Rattle.std.proofs.Common.{◌≡◌, ℕ, Bool, true, false, List, [], ◌�
 use Rattle.std.specs.Prelude.{All, Contains}
 use Rattle.std.proofs.lemmas.Bool.{false≢true}
 use Rattle.std.proofs.lemmas.List.Elements.{All-nil, All-cons, All-contains}
-use Rattle.jz_words.specs.Memory.{Memory}
 use Rattle.jz_tree.specs.declared.program.Fun.{Fun}
 use Rattle.jz_tree.specs.declared.program.Program.{Program}
 use Rattle.jz_type_rows.specs.Exports.{is_exported}
 use Rattle.jz_runs.specs.Rules.{End, Cut, Stuck}
 use Rattle.jz_meaning.specs.declared.value.Stuck.{Stuck as Reason}
-use Rattle.jz_meaning.specs.States.{Value}
 use Rattle.jz_meaning.specs.Runs.{FunOutcome, IsRun}
-use Rattle.jz_preconditions.specs.Meeting.{MeetsPreconditions}
-use Rattle.jz_change.specs.Changes.{Change}
-use Rattle.jz_fact_entry.specs.Entry.{AreWords}
 use Rattle.jz_safe_expansions.specs.SafeExpansions.{IsExpandedExport}
 use Rattle.jz_checked.specs.CheckedLaws.{IsNeverStuck}
 use Rattle.jz_checked.proofs.Whole.{checked_never}
@@ -82,7 +77,7 @@ module _ (text output : List ℕ) (g : Gives text output) (f : Fun) (has : Conta
         strict o q
         (λ w e. never words values memory n w meets are (subst (λ (y : FunOutcome). IsRun g.program f values memory n y) e a))
         (λ w e. never others ours other n w meet were (subst (λ (y : FunOutcome). IsRun g.program f ours other n y) e b))
-        (alike.sources (record { words = values; memory = memory }) (record { words = ours; memory = other }) meets.bytes meet.bytes equal n o q a b)
+        (functions_alike g.program f judged.expanded judged.change judged.count is_export judged.constant (record { words = values; memory = memory }) (record { words = ours; memory = other }) meets.bytes meet.bytes equal n o q a b)
 
     alike_too : InputsLeakNothingSecret g.program f
     alike_too = record {
