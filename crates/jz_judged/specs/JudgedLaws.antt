@@ -1,5 +1,5 @@
--- What two runs leak of a function of a text for which constant time is answered, on inputs that are
--- equal at its public parameters.
+-- What two runs leak of a function of a text for which constant time is answered, on inputs that
+-- are equal at its public parameters.
 use Rattle.std.specs.Prelude.{◌≡◌, ℕ, List, true, Contains}
 use Rattle.jz_words.specs.Memory.{Memory}
 use Rattle.jz_tree.specs.declared.program.Fun.{Fun}
