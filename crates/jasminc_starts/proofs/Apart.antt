@@ -1,5 +1,5 @@
 -- The bytes of items stand apart from the stack.
-use Rattle.std.proofs.Common.{◌≡◌, ℕ, zero, suc, ◌+◌, ◌-◌, ◌<◌, ◌≤◌, ◌^◌, Bool, true, false, not, ◌&&◌, ◌||◌, nat_lt, if◌then◌else◌, List, [], ◌∷◌, ◌++◌, length, Option, Some, None, refl, ap, ◌∙◌, arith, subst, ◌⊎◌, ⊎_elim}
+use Rattle.std.proofs.Common.{◌≡◌, ℕ, ◌+◌, ◌-◌, ◌<◌, ◌≤◌, ◌^◌, Bool, true, false, not, ◌&&◌, ◌||◌, nat_lt, if◌then◌else◌, List, [], ◌∷◌, ◌++◌, length, Option, Some, None, refl, ap, ◌∙◌, arith, subst, ◌⊎◌, ⊎_elim}
 use Rattle.std.specs.Prelude.{slice_get}
 use Rattle.std.specs.Option.{option_and_then, option_or}
 use Rattle.std.specs.List.{AllByRecursion, list_any}
@@ -8,7 +8,7 @@ use Rattle.jz_preconditions.specs.Bounds.{first_of}
 use Rattle.jz_items.specs.declared.item.Placed.{Placed}
 use Rattle.jz_items.specs.declared.item.Item.{Item}
 use Rattle.jz_items.specs.declared.item.Item.TheVariants.{Number, Bytes}
-use Rattle.jz_items.specs.Items.{do_meet, is_reserved, is_free, meets_item, item_of, items_behind, items_of}
+use Rattle.jz_items.specs.Items.{do_meet, is_reserved, is_free, meets_item, item_of, items_behind}
 use Rattle.jz_inputs.specs.Held.{byte_in, byte_at}
 use Rattle.jasminc_starts.specs.Memories.{lowest_stack, stack_end, StandApart, AreItems}
 use Rattle.jasminc_starts.proofs.Memories.{past_end}

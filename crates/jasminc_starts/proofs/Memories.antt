@@ -1,12 +1,12 @@
 -- The memory at the start: the items' bytes, and above and below them the stack.
-use Rattle.std.proofs.Common.{◌≡◌, ℕ, zero, suc, ◌+◌, ◌-◌, ◌^◌, ◌<◌, ◌≤◌, Bool, true, false, List, [], ◌∷◌, length, refl, sym, ap, ◌∙◌, arith, subst, ◌⊎◌, ⊎_elim}
+use Rattle.std.proofs.Common.{◌≡◌, ℕ, zero, suc, ◌+◌, ◌-◌, ◌^◌, ◌<◌, ◌≤◌, true, false, List, [], ◌∷◌, length, refl, sym, ap, ◌∙◌, arith, subst, ◌⊎◌, ⊎_elim}
 use Rattle.std.proofs.lemmas.Bool.{le-ltb, lt-ltb}
-use Rattle.std.specs.Prelude.{Option, Some, None, is_some, IsSome, slice_get, nat_lt, if◌then◌else◌, replicate}
+use Rattle.std.specs.Prelude.{Option, Some, None, is_some, slice_get, if◌then◌else◌, replicate}
 use Rattle.std.specs.FinMap.{get}
 use Rattle.std.specs.Option.{option_or}
 use Rattle.jz_words.specs.Memory.{Memory}
 use Rattle.jz_tree.specs.declared.program.Fun.{Fun}
-use Rattle.jz_leak.specs.MemoryMap.{AddsBytes, byte_from}
+use Rattle.jz_leak.specs.MemoryMap.{AddsBytes}
 use Rattle.jz_preconditions.specs.Stating.{preconditions_of}
 use Rattle.jz_preconditions.specs.Meeting.{IsValid}
 use Rattle.jz_items.specs.declared.item.Item.{Item}

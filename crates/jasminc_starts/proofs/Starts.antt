@@ -1,10 +1,8 @@
 -- Where `exec` starts a function is a start of it.
-use Rattle.std.proofs.Common.{◌≡◌, ℕ, zero, suc, ◌+◌, ◌-◌, ◌%◌, ◌^◌, ◌<◌, ◌≤◌, true, List, [], ◌∷◌, length, get_or, refl, sym, ap, ◌∙◌, arith, subst, lit<}
+use Rattle.std.proofs.Common.{◌≡◌, ℕ, zero, suc, ◌+◌, ◌-◌, ◌%◌, ◌^◌, ◌<◌, ◌≤◌, true, List, [], ◌∷◌, length, refl, sym, ap, ◌∙◌, arith, subst, lit<}
 use Rattle.std.specs.Prelude.{All, IsSome, is_some, slice_index, slice_set, replicate, ⊤}
 use Rattle.std.specs.List.{AllByRecursion, AllZip}
-use Rattle.std.specs.FinMap.{get}
 use Rattle.std.proofs.lemmas.List.{get_or-set_same, length-set}
-use Rattle.jz_words.specs.declared.size.Size.{Size}
 use Rattle.jz_words.specs.Sizes.{modulus}
 use Rattle.jz_words.specs.Memory.{Memory, loaded}
 use Rattle.x64_insn.specs.declared.types.Reg.{Reg}
@@ -28,7 +26,7 @@ use Rattle.jz_items.specs.Items.{words_of, ItemsFit}
 use Rattle.jz_listing.specs.declared.compiled.Arg.{Arg}
 use Rattle.jz_listing.specs.declared.compiled.Compiled.{Compiled}
 use Rattle.jz_correct.specs.Registers.{argument_registers}
-use Rattle.jz_correct.specs.Starts.{IsIn, IsInOne, IsValid, IsStart, AreInRegisters, stack_at, regions_for}
+use Rattle.jz_correct.specs.Starts.{IsInOne, IsValid, IsStart, AreInRegisters, regions_for}
 use Rattle.jz_compiled.specs.Lines.{AreArgumentLines, listed_preconditions}
 use Rattle.jz_compiled.specs.Matching.{Matches}
 use Rattle.jz_compiled.specs.Correct.{IsCompilation}
