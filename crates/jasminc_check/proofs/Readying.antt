@@ -36,7 +36,7 @@ use Rattle.jz_asked.specs.declared.alarms.Alarm as asked
 use Rattle.jz_asked.specs.Asked.{alarm_of}
 use Rattle.jz_one_expansion.proofs.Expansions.{expansion_plain}
 use Rattle.jz_first_alarm.specs.FirstAlarms.{HasFirstAlarm}
-use Rattle.jasminc_interp.proofs.Parameters.{asked_well}
+use Rattle.jz_stated.proofs.Annotated.{asked_well}
 use Rattle.jasminc_source.specs.Exports.{WithinIfExported}
 use Rattle.jasminc_check.specs.Safety.{IsJudged, IsSafe, safe_line}
 use Rattle.jasminc_check.specs.InnerSafety.{IsReadyAt, IsJudgedAt, IsAmong, AddsLine, AlarmAt}

@@ -1,9 +1,7 @@
 //! The export functions of a program, each after the other.
 
-ghost use Rattle.std.specs.Prelude.{◌≡◌, ◌++◌, [], ℕ, All, None, Some, IfOk, IfErr, OnOk};
+ghost use Rattle.std.specs.Prelude.{◌≡◌, ◌++◌, ℕ, All, None, Some, IfOk, IfErr, OnOk};
 ghost use Rattle.jz_tree.specs.Failures.{IfRefused};
-ghost use Rattle.jz_preconditions.specs.Refusals.{refused_places};
-ghost use Rattle.jz_preconditions.specs.Stating.{preconditions_of};
 ghost use Rattle.jz_types.specs.TypedPrograms.{IsTypedProgram};
 ghost use Rattle.jz_texts.specs.Texts.{IsText};
 ghost use Rattle.jz_expansion.specs.Expanding.{IsExpandedAt};
@@ -18,7 +16,7 @@ use jz_asked::Alarm;
 use jz_expansion::{Expanded, expand};
 use jz_first_alarm::first_alarm;
 use jz_io::Bytes;
-use jz_preconditions::{Pre, preconditions};
+use jz_stated::stated;
 use jz_text::write_number;
 use jz_tree::{Failure, Fun, Seq};
 use jz_types::Typed;
@@ -31,18 +29,6 @@ fn expanded_at(alloc: Global, typed: &Typed, place: usize) -> Result<Expanded, A
 {
     match expand(alloc, typed, place) {
         Ok(expanded) => Ok(expanded),
-        Err(Failure::OutOfMemory) => Err(AllocError),
-        Err(Failure::Refused(_)) => unreachable!(),
-    }
-}
-
-/// The preconditions of a function of which none is refused.
-fn stated(alloc: Global, function: &Fun) -> Result<Seq<Pre>, AllocError>
-    requires { refused_places function.now ≡ [] }
-    ensures { IfOk result (λ pres. pres ≡ preconditions_of function.now) }
-{
-    match preconditions(alloc, function) {
-        Ok(pres) => Ok(pres),
         Err(Failure::OutOfMemory) => Err(AllocError),
         Err(Failure::Refused(_)) => unreachable!(),
     }

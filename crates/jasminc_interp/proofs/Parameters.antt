@@ -1,8 +1,7 @@
 -- The parameters of an export function are words, and items are arguments of them.
-use Rattle.std.proofs.Common.{◌≡◌, ℕ, ◌%◌, ◌<◌, Bool, true, false, not, ◌&&◌, ◌||◌, List, [], ◌∷◌, length, Option, Some, None, map, refl, sym, ap, ◌∙◌, subst, arith, if◌then◌else◌}
-use Rattle.std.specs.Prelude.{All, Contains, option_map, is_some, nat_le, slice_get}
+use Rattle.std.proofs.Common.{◌≡◌, ℕ, ◌%◌, ◌<◌, Bool, true, false, not, ◌&&◌, ◌||◌, List, [], ◌∷◌, length, Option, Some, None, map, refl, sym, ap, ◌∙◌, subst, arith}
+use Rattle.std.specs.Prelude.{All, Contains, option_map, nat_le, slice_get}
 use Rattle.std.proofs.lemmas.List.{length-map}
-use Rattle.jz_tree.specs.Span.{Span}
 use Rattle.std.specs.List.{list_all, AllZip}
 use Rattle.std.proofs.lemmas.Bool.{and_parts, false≢true}
 use Rattle.std.proofs.lemmas.List.Elements.{All-nil, All-cons, All-head, All-tail, All-map, All-weaker, All-contains, Contains-get_or}
@@ -14,26 +13,24 @@ use Rattle.jz_tree.specs.Word as code_word
 use Rattle.jz_tree.specs.declared.expr.Storage.TheVariants as storage
 use Rattle.jz_tree.specs.declared.expr.Expr.{Expr}
 use Rattle.jz_tree.specs.declared.expr.Ty.{Ty}
-use Rattle.jz_tree.specs.declared.expr.Access.{Access}
 use Rattle.jz_tree.specs.declared.expr.Decl.{Decl}
 use Rattle.jz_tree.specs.declared.expr.Var.{Var}
-use Rattle.jz_tree.specs.declared.expr.Expr.TheOpen.{Ty-F, Var-F}
+use Rattle.jz_tree.specs.declared.expr.Expr.TheOpen.{Ty-F}
 use Rattle.jz_tree.specs.declared.expr.Expr.TheViews.{out-Ty, out-Var}
 use Rattle.jz_tree.specs.declared.program.Fun.{Fun}
 use Rattle.jz_tree.specs.declared.program.Param.{Param}
 use Rattle.jz_tree.specs.declared.program.Program.{Program}
 use Rattle.jz_type_names.specs.declared.kinds.Kind as known
 use Rattle.jz_type_names.specs.Kinds.{Known, declared_of, known_of, kind_of, kind_step, is_word_kind, is_register_word, same_storage}
-use Rattle.jz_type_names.specs.Scopes.{constant_place, variable_named}
+use Rattle.jz_type_names.specs.Scopes.{constant_place}
 use Rattle.jz_type_names.proofs.Empty.{passed, all_empty, no_member}
-use Rattle.jz_type_rows.specs.Exports.{is_exported, has_shape, is_word_param, is_word_result, misshapen_places, annotated_places}
+use Rattle.jz_type_rows.specs.Exports.{is_exported, has_shape, is_word_param, is_word_result, misshapen_places}
 use Rattle.jz_type_rows.specs.Programs.{in_functions}
 use Rattle.jz_resolve.specs.Numbering.{values_of}
 use Rattle.jz_resolve.specs.Numbering as numbering
-use Rattle.jz_resolve.specs.Programs.{counted_var, counted_param, resolved_whole, resolved_program}
+use Rattle.jz_resolve.specs.Programs.{counted_param, resolved_whole, resolved_program}
 use Rattle.jz_types.specs.TypedPrograms.{IsTypedProgram}
 use Rattle.jz_types.specs.declared.fault.TypeRule.TheVariants as rule
-use Rattle.jz_types.proofs.ProgramsKept.{decl_known, var_out, var_name, find_kept}
 use Rattle.jz_meaning.specs.declared.access.Kind as meant
 use Rattle.jz_meaning.specs.declared.access.Kind.TheVariants as kind
 use Rattle.jz_meaning.specs.Values.{ref_of}
@@ -44,13 +41,13 @@ use Rattle.jz_run_laws.proofs.SameKinds.{SameKind, SameKnown}
 use Rattle.jz_run_laws.proofs.Sizes.{variable_law}
 use Rattle.jz_interp.specs.Outcomes as outcomes
 use Rattle.jz_interp.specs.Outcomes.{Takes}
-use Rattle.jz_preconditions.specs.Naming.{known_by, parameters_of, values_of_kind}
+use Rattle.jz_preconditions.specs.Naming.{values_of_kind}
 use Rattle.jz_preconditions.specs.Naming as asked
 use Rattle.jz_preconditions.specs.Refusals.{refused_places}
 use Rattle.jz_preconditions.specs.Meeting.{IsArgument}
 use Rattle.jz_items.specs.declared.item.Item.{Item}
 use Rattle.jz_items.specs.Items.{word_of, words_of}
-use Rattle.jz_inputs.proofs.SameRefusals.{refused_same}
+use Rattle.jz_stated.proofs.Annotated.{var_known, asked_well}
 use Rattle.jasminc_interp.specs.Runs.{argument, argument_values, bits_of, argument_words}
 use Rattle.jasminc_interp.specs.InnerRuns.{IsExportAt}
 
@@ -103,11 +100,8 @@ module _ (p : Program) where
   abbrev values : numbering.Values
   values = values_of p.consts
 
-  var_known : (v : Var) → known_of (counted_var values v) ≡ known_of v
-  var_known v = ap (λ (y : Var-F Expr Ty Access Decl Var). option_map declared_of y.decl) (var_out values v) ∙ decl_known values (out-Var v).decl
-
   counted_words : (q : Param) → IsWord q → IsWord (counted_param values q)
-  counted_words q e = ap is_register_word (var_known q.var) ∙ e
+  counted_words q e = ap is_register_word (var_known p q.var) ∙ e
 
   resolved_words : (f : Fun) → TakesWords f → TakesWords (resolved_whole (constant_place p.consts) values f)
   resolved_words f h x = All-map IsWord (counted_param values) f.params (All-weaker IsWord (λ q. IsWord (counted_param values q)) counted_words f.params (h x))
@@ -185,54 +179,6 @@ are_arguments p place items h many =
     all_small h.function.params (words_of items) (All-contains TakesWords p.funs h.function (takes_words p h.typed) among h.exported) (length-map items word_of ∙ many)
 
 -- ---- no precondition of an export function is refused
-abbrev AsksWell : Fun → Type 0
-AsksWell f = is_exported f.kind ≡ true → refused_places f ≡ []
-
-exported_well : (b : Bool) (at : List Span) → (if b then at else []) ≡ [] → b ≡ true → at ≡ []
-exported_well true at e h = e
-exported_well false at e h = absurd (false≢true h)
-
-module _ (p : Program) where
-  abbrev numbers : numbering.Values
-  numbers = values_of p.consts
-
-  vars_counted : (ps : List Param) → map (λ q. q.var) (map (counted_param numbers) ps) ≡ map (counted_var numbers) (map (λ q. q.var) ps)
-  vars_counted [] = refl
-  vars_counted (q ∷ ps) = ap (λ vs. counted_var numbers q.var ∷ vs) (vars_counted ps)
-
-  parameters_kept : (f : Fun) (n : List ℕ) → parameters_of (resolved_whole (constant_place p.consts) numbers f) n ≡ option_map (counted_var numbers) (parameters_of f n)
-  parameters_kept f n =
-      ap (variable_named n) (vars_counted f.params) ∙ find_kept (λ v. (out-Var v).name) (counted_var numbers) (var_name numbers) n (map (λ q. q.var) f.params)
-
-  known_kept : (o : Option Var) → known_by (option_map (counted_var numbers) o) ≡ known_by o
-  known_kept None = refl
-  known_kept (Some v) = var_known p v
-
-  there_kept : (o : Option Var) → is_some (option_map (counted_var numbers) o) ≡ is_some o
-  there_kept None = refl
-  there_kept (Some v) = refl
-
-  resolved_well : (f : Fun) → AsksWell f → AsksWell (resolved_whole (constant_place p.consts) numbers f)
-  resolved_well f h x =
-      refused_same (parameters_of (resolved_whole (constant_place p.consts) numbers f)) (parameters_of f)
-      (λ n. ap known_by (parameters_kept f n) ∙ known_kept (parameters_of f n))
-      (λ n. ap is_some (parameters_kept f n) ∙ there_kept (parameters_of f n)) f.notes
-      ∙ h x
-
-  all_well : in_functions annotated_places p ≡ [] → All AsksWell (resolved_program p).funs
-  all_well e =
-      All-map AsksWell (resolved_whole (constant_place p.consts) numbers) p.funs
-      (All-weaker (λ f. annotated_places f ≡ []) (λ f. AsksWell (resolved_whole (constant_place p.consts) numbers f))
-      (λ f h. resolved_well f (exported_well (is_exported f.kind) (refused_places f) h)) p.funs (all_empty annotated_places p.funs e))
-
-asks_well : (q : Program) → IsTypedProgram q → All AsksWell q.funs
-asks_well q h =
-    subst (λ z. All AsksWell z.funs) (sym h.same)
-    (all_well h.source (no_member (in_functions annotated_places h.source) (λ at c. h.typed rule.BadAnnotation at c)))
-
-pub asked_well : (p : Program) (f : Fun) → IsTypedProgram p → Contains p.funs f → is_exported f.kind ≡ true → refused_places f ≡ []
-asked_well p f t among x = All-contains AsksWell p.funs f (asks_well p t) among x
-
 pub none_refused : (p : Program) (place : ℕ) (h : IsExportAt p place) → refused_places h.function ≡ []
 none_refused p place h =
     asked_well p h.function h.typed (contained p.funs place h.function h.there) h.exported

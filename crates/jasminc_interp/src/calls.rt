@@ -5,14 +5,14 @@ ghost use Rattle.jz_meaning.specs.States.{word};
 ghost use Rattle.jz_meaning.specs.Values.{ref_of};
 ghost use Rattle.jz_interp.specs.Outcomes.{values_of};
 ghost use Rattle.jz_preconditions.specs.Refusals.{refused_places};
-ghost use Rattle.jz_preconditions.specs.Stating.{preconditions_of};
 ghost use Rattle.jasminc_interp.specs.Runs.{argument, argument_values};
 ghost use Rattle.jasminc_interp.specs.InnerRuns.{IsCalled};
 
 use jz_items::{Item, words_of};
 use jz_meaning::{Kind, kind_of};
-use jz_preconditions::{Pre, preconditions};
-use jz_tree::{Failure, Fun, Param, Seq, Word};
+use jz_preconditions::Pre;
+use jz_stated::stated;
+use jz_tree::{Fun, Param, Seq, Word};
 use jz_words::Size;
 use std::alloc::{AllocError, Global};
 
@@ -55,18 +55,6 @@ fn bits_of(alloc: Global, words: &Seq<Word>) -> Result<Seq<u64>, AllocError>
     ensures { IfOk result (λ bits. bits ≡ map (λ w. w.bits) words.now) }
 {
     words.try_map(alloc, |word| Ok(word.bits()))
-}
-
-/// The preconditions of a function of which none is refused.
-fn stated(alloc: Global, function: &Fun) -> Result<Seq<Pre>, AllocError>
-    requires { refused_places function.now ≡ [] }
-    ensures { IfOk result (λ pres. pres ≡ preconditions_of function.now) }
-{
-    match preconditions(alloc, function) {
-        Ok(pres) => Ok(pres),
-        Err(Failure::Refused(_)) => unreachable!(),
-        Err(Failure::OutOfMemory) => Err(AllocError),
-    }
 }
 
 /// What a function of which no precondition is refused is run on.

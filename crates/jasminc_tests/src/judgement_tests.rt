@@ -158,7 +158,42 @@ static EXAMPLES: [Row; 12] = [
 ];
 
 /// The first function that is not, and its first breach.
-static BREACHES: [Row; 7] = [
+static BREACHES: [Row; 10] = [
+    Row {
+        words: CT,
+        text: b"export fn z(reg u64 s) -> reg u64 { reg u64 r; r = 1; if (s == 0) { r = 2; } return r; }",
+        status: Status::CtNo,
+        written: "ct z no 1:59 Branch s\n",
+        made: 0,
+    },
+    Row {
+        words: CT,
+        text: b"export fn z(reg u64 p) -> reg u64 { reg u64 r; r = [p + 8]; return r; }",
+        status: Status::CtNo,
+        written: "ct z no 1:52 Address p\n",
+        made: 0,
+    },
+    Row {
+        words: CT,
+        text: b"export fn z(#public reg u64 p) -> reg u64 { reg u64 r; r = 1; if (r == [p]) { r = 2; } return r; }",
+        status: Status::CtNo,
+        written: "ct z no 1:67 Branch mem\n",
+        made: 0,
+    },
+    Row {
+        words: CT,
+        text: b"export fn z(reg u64 i) -> reg u64 { stack u64[2] a; reg u64 r; a[0] = 1; a[1] = 2; r = a[i]; return r; }",
+        status: Status::CtNo,
+        written: "ct z no 1:88 Address i\n",
+        made: 0,
+    },
+    Row {
+        words: CT,
+        text: b"export fn z(#public reg u64 x, reg u64 y) -> reg u64 { reg u64 q; q = x / y; return q; }",
+        status: Status::CtNo,
+        written: "ct z no 1:71 Divide y\n",
+        made: 0,
+    },
     Row {
         words: CT,
         text: b"// Gives word index of a table of len words. The address that is read tells index, so `ct` refuses it;\n// masked_lookup.jazz reads all words of the table in its place.\n//\n// ./jasminc ct examples/table_lookup.jazz\n// ct table_lookup no 11:11 Address index\n#[region=\"table: 8*len\"]\n#[range=\"len: 1..4096\"]\n#[align=\"table: 8\"]\nexport fn table_lookup(#public reg u64 table len, #secret reg u64 index) -> reg u64 {\n  reg u64 found;\n  found = [table + 8*index];\n  return found;\n}\n",
@@ -189,29 +224,29 @@ static BREACHES: [Row; 7] = [
     },
     Row {
         words: CT,
-        text: b"export fn quo(#public reg u64 x, reg u64 y) -> reg u64 {\n  reg u64 q;\n  q = x / y;\n  return q;\n}\n",
-        status: Status::CtNo,
-        written: "ct quo no 3:7 Divide y\n",
-        made: 0,
-    },
-    Row {
-        words: CT,
         text: b"export fn z(reg u64 s) -> reg u64 {\n  reg u64[2] a;\n  reg u64 r;\n  r = 0; a[0] = s;\n  if (a[0] == 0) { r = 2; }\n  return r;\n}\n",
         status: Status::CtNo,
         written: "ct z no 5:7 Branch a[0]\n",
         made: 0,
     },
-    Row {
-        words: CT,
-        text: b"export fn z(#public reg u64 p) -> reg u64 {\n  reg u64 r;\n  r = 1;\n  if (r == [p]) { r = 2; }\n  return r;\n}\n",
-        status: Status::CtNo,
-        written: "ct z no 4:7 Branch mem\n",
-        made: 0,
-    },
 ];
 
 /// What is told before the first breach.
-static REFUSALS: [Row; 5] = [
+static REFUSALS: [Row; 7] = [
+    Row {
+        words: CT,
+        text: b"export fn d(reg u64 x) -> reg u64 { reg u64 r; r = 1; r = x - r; return r; }",
+        status: Status::Typing,
+        written: "type 6 NoInstruction 1:55\n",
+        made: 0,
+    },
+    Row {
+        words: CT,
+        text: b"export fn f() { inline int i; for i = 0 to 65537 { } }",
+        status: Status::Limit,
+        written: "limit Expand f\n",
+        made: 0,
+    },
     Row {
         words: CT,
         text: b"export fn f(reg u64 x) -> reg u64 { if (x == 0) { x = 1 / 0; } return x; }\n",

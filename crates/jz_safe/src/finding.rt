@@ -11,21 +11,22 @@ use crate::certificate::Safe;
 use jz_asked::Alarm;
 use jz_expansion::Expanded;
 use jz_first_alarm::first_alarm;
-use jz_preconditions::Pre;
-use jz_tree::{Failure, Seq};
+use jz_stated::stated;
+use jz_tree::Failure;
 use std::alloc::Global;
 
-/// The same expansion, where it has no alarm under its preconditions, which are these; else the
-/// first alarm. The stack grows with the nesting of the text.
-pub fn safe(alloc: Global, expanded: Expanded, pres: &Seq<Pre>) -> Result<Safe, Failure<Alarm>>
-    requires text { IsOfText expanded }
-    requires stated { pres.now ≡ preconditions_of expanded.fun }
+/// The same expansion, where it has no alarm under its preconditions; else the first alarm. The
+/// stack grows with the nesting of the text.
+pub fn safe(alloc: Global, expanded: Expanded) -> Result<Safe, Failure<Alarm>>
+    requires { IsOfText expanded }
     ensures same { IfOk result (λ s. s.expanded ≡ expanded) }
     ensures none { IfOk result (λ s. HasFirstAlarm expanded.fun
         (preconditions_of expanded.fun) None) }
     ensures some { IfErr result (λ failure. IfRefused failure (λ alarm.
         HasFirstAlarm expanded.fun (preconditions_of expanded.fun) (Some (alarm_of alarm)))) }
 {
-    first_alarm(alloc, expanded.fun(), pres)?;
+    let function = expanded.fun();
+    let pres = stated(alloc, function)?;
+    first_alarm(alloc, function, &pres)?;
     Ok(Safe { expanded })
 }

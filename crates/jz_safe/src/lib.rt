@@ -3,6 +3,8 @@
 
 mod certificate;
 mod finding;
+mod laws;
 
 pub use certificate::Safe;
 pub use finding::safe;
+pub use laws::what_is_safe_is_never_stuck;

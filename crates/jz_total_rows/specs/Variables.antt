@@ -29,9 +29,9 @@ pub data IsPlaced (v : Var) : Type 0 where
 abbrev pub AreOneName : Var → Var → Type 0
 AreOneName x v = ((ref_of v).name ≡ (ref_of x).name) × ((ref_of v).copy ≡ (ref_of x).copy)
 
--- what stands for a declared variable: the variable itself, declared alike (an array that is lent has
--- the declaration of the parameter), or a cell of a register array, which the expansion makes a word
--- of its own
+-- what stands for a declared variable: the variable itself, declared alike (an array that is lent
+-- has the declaration of the parameter), or a cell of a register array, which the expansion makes a
+-- word of its own
 pub data Names (x v : Var) : Type 0 where
   itself :
       AreOneName x v → (ref_of v).cell ≡ None → known_of v ≡ known_of x

@@ -13,7 +13,8 @@ use Rattle.jz_runs.specs.Rules.{Outcome, End, Cut, Stuck, Goes}
 use Rattle.jz_runs.proofs.Steady.{exact, one_outcome, has_outcome}
 use Rattle.x64_machine.specs.declared.step.Step.{Step}
 use Rattle.x64_machine.specs.declared.step.Step.TheVariants.{Running, Ended, Fault}
-use Rattle.x64_machine.specs.Steps.{Config, Moved, Ran, step_of, events_of, steps_of}
+use Rattle.x64_decode.specs.declared.Decoded.TheVariants as decoded
+use Rattle.x64_machine.specs.Steps.{Config, Moved, Ran, at_entry, insn_at, step_of, events_of, steps_of}
 use Rattle.x64_machine.specs.MachineRuns.{followed}
 use Rattle.x64_machine.proofs.MachineRunning.{end_stays, steps_both}
 use Rattle.jz_linear.specs.declared.line.Line.{Line}
@@ -37,8 +38,8 @@ answers_ended code base c e = rw e refl
 
 module _ (code : List ℕ) (base : ℕ) (c : Config) where
   -- a run that goes on, and then a step that ends it
-  then_ends : {k : ℕ} {es : List Event} {d : Config} (m : Moved) → Going code base k c es d → step_of code base d ≡ m → m.after.ended ≡ true → m.answer ≡ Ended → EndsAt code base (k + 1) c (es ++ events_of m.leak) m.after
-  then_ends {k} {es} {d} m g step ended answer =
+  then_ends : {k : ℕ} {es : List Event} {d : Config} (m : Moved) → Going code base k c es d → step_of code base d ≡ m → m.after.ended ≡ true → m.answer ≡ Ended → at_entry d ≡ true → EndsAt code base (k + 1) c (es ++ events_of m.leak) m.after
+  then_ends {k} {es} {d} m g step ended answer entry =
       let one : steps_of code base d 1 ≡ record { after = m.after; events = events_of m.leak } =
       run_on code base d m 0 step ∙ ap (λ (r : Ran). record { after = r.after; events = events_of m.leak ++ r.events }) (no_step code base m.after) ∙ ap (λ x. record { after = m.after; events = x }) (append-nil (events_of m.leak)) in
       record {
@@ -48,7 +49,12 @@ module _ (code : List ℕ) (base : ℕ) (c : Config) where
         answers = λ j lt. g.answers j (omega (arith, lt));
         last = λ j e. let same : k ≡ j = omega (arith, e) in
             ap (λ i. (step_of code base (steps_of code base c i).after).answer) (sym same) ∙ ap (λ (r : Ran). (step_of code base r.after).answer) g.is ∙ ap (λ (x : Moved). x.answer) step ∙ answer;
+        returns = λ j len lt e i. return_so j len e i (cases_lt j k) lt;
       }
+    where
+      return_so : (j len : ℕ) → (steps_of code base c j).after.ended ≡ false → insn_at code base (steps_of code base c j).after.state.rip ≡ decoded.Insn insn.Ret len → (j < k) ⊎ (k ≤ j) → j < k + 1 → at_entry (steps_of code base c j).after ≡ true
+      return_so j len e i (inl lt) below = g.returns j len lt e i
+      return_so j len e i (inr le) below = let same : k ≡ j = omega (arith, le, below) in ap (λ n. at_entry (steps_of code base c n).after) (sym same) ∙ ap (λ (r : Ran). at_entry r.after) g.is ∙ entry
 
   running : (s : Step) (f : FaultKind) → s ≡ Running → s ≡ Fault f → ⊥
   running s f a b = cc
@@ -167,7 +173,7 @@ module _ (t : Code) (ok : IsPlainCode t) (ws : List Wide) (widths : map line_of 
       let zero_on : 0 + len ≡ len = omega arith in
       let g : Going code base w.moves.k (at 0 s0) es (at len s1) = subst (λ p. Going code base w.moves.k (at 0 s0) es (at p s1)) zero_on (machine w.moves.goes (omega (arith, size_is))) in
       let r = return_step ws place nl are base code is fits last entry_rsp entry_return len s1 (subst (λ p. at_place (map line_of ws) p ≡ Some (line.Insn insn.Ret)) zero_on ret_there) can in
-      (r.target, r.return, then_ends code base (at 0 s0) _ g r.step refl refl)
+      (r.target, r.return, then_ends code base (at 0 s0) _ g r.step refl refl r.entry)
 
   ends_of : (n left : ℕ) (s1 : Machine) (l : Leak) → CanReturn entry_rsp entry_return s1 → Follow n (End s1 left l) → Ends n s1 l
   ends_of n left s1 l can (went_on w) =

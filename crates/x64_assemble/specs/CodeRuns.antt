@@ -12,6 +12,7 @@ use Rattle.jz_leak.specs.Applying.{body_events}
 use Rattle.jz_runs.specs.Rules.{End, Cut, Stuck, Goes}
 use Rattle.x64_machine.specs.declared.step.Step.TheVariants.{Running, Ended, Fault}
 use Rattle.x64_machine.specs.Steps.{Config, step_of, steps_of}
+use Rattle.x64_same_events.specs.SameEvents.{ReturnsFromEntry}
 use Rattle.jz_placing.specs.Instructions.{Machine, Code, instructions}
 use Rattle.jz_linear.specs.Plain.{state_at}
 use Rattle.jz_linear.specs.Lines.{cases_of}
@@ -24,6 +25,7 @@ pub record Going (code : List ℕ) (base k : ℕ) (c : Config) (es : List Event)
   pub opens : (j : ℕ) → j < suc k → (steps_of code base c j).after.ended ≡ false
   pub answers : (j : ℕ) → j < k
       → (step_of code base (steps_of code base c j).after).answer ≡ Running
+  pub returns : ReturnsFromEntry code base c k
 
 -- it ends with its k-th step and not before, with these events, in this configuration
 pub record EndsAt (code : List ℕ) (base k : ℕ) (c : Config) (es : List Event) (d : Config)
@@ -35,6 +37,7 @@ pub record EndsAt (code : List ℕ) (base k : ℕ) (c : Config) (es : List Event
       → (step_of code base (steps_of code base c j).after).answer ≡ Running
   pub last : (j : ℕ) → suc j ≡ k
       → (step_of code base (steps_of code base c j).after).answer ≡ Ended
+  pub returns : ReturnsFromEntry code base c k
 
 -- no step faults, however many were made before
 abbrev pub NeverFaults : List ℕ → ℕ → Config → Type 0

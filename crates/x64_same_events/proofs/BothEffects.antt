@@ -1,14 +1,13 @@
 -- One instruction in two states: it shows as much, and goes on at the same place of the code where it
 -- shows the same.
-use Rattle.std.proofs.Common.{◌≡◌, ◌<◌, ◌≤◌, ℕ, ◌+◌, ◌-◌, ◌*◌, ◌%◌, ◌^◌, Bool, true, false, List, Option, Some, None, refl, sym, ap, subst, ◌∙◌, arith, if◌then◌else◌}
+use Rattle.std.proofs.Common.{◌≡◌, ◌<◌, ℕ, ◌+◌, ◌-◌, ◌%◌, ◌^◌, Bool, true, false, List, Option, Some, None, refl, ap, ◌∙◌, arith, if◌then◌else◌}
 use Rattle.std.specs.Prelude.{is_some, ℤ, pos, negsuc, ◌+ℤ◌, Result, Ok, Err}
 use Rattle.std.proofs.lemmas.Int.{ints}
 use Rattle.std.specs.Option.{option_or}
 use Rattle.jz_words.specs.declared.size.Size.{Size}
 use Rattle.jz_words.specs.declared.size.Size.TheVariants.{S8, S32, S64}
-use Rattle.jz_words.specs.Sizes.{bytes_of}
 use Rattle.jz_words.specs.Words.{residue}
-use Rattle.jz_words.specs.Memory.{Memory, loaded, all_valid, stored}
+use Rattle.jz_words.specs.Memory.{Memory, loaded}
 use Rattle.x64_insn.specs.declared.products.DoubleAnswer.{DoubleAnswer}
 use Rattle.x64_insn.specs.declared.types.Alu.{Alu}
 use Rattle.x64_insn.specs.declared.types.One.{One}
@@ -30,7 +29,7 @@ use Rattle.x64_insn.specs.declared.types.StepLeak.{StepLeak}
 use Rattle.x64_insn.specs.declared.types.FaultKind.{FaultKind}
 use Rattle.x64_insn.specs.declared.types.FaultKind.TheVariants.{BadAddress, Divide, UndefinedFlag}
 use Rattle.x64_insn.specs.Products.{quotient_answer, signed_quotient_answer}
-use Rattle.x64_insn.specs.Rows.{After, reg_value, reg_word, with_reg, address_event, holds, no_event, or_bad_address, or_undefined, or_divide, address_of, operand_value, accessed, access_event, access_events, finished, put_row, mov_row, extend_row, lea_row, bswap_row, sign_row, writes_operand, carry_read, alu_row, one_row, shift_row, imul_row, both_row, division_event, wide_word_row, wide_row, set_row, cmov_row, target_of, jcc_row, jmp_row, call_row, ret_row, effect_of}
+use Rattle.x64_insn.specs.Rows.{After, reg_value, reg_word, with_reg, address_event, holds, or_bad_address, or_undefined, or_divide, operand_value, accessed, access_event, access_events, finished, put_row, mov_row, extend_row, lea_row, bswap_row, sign_row, writes_operand, carry_read, alu_row, one_row, shift_row, imul_row, both_row, division_event, wide_word_row, wide_row, set_row, cmov_row, target_of, jcc_row, jmp_row, call_row, ret_row, effect_of}
 use Rattle.x64_machine.specs.Steps.{is_ret}
 
 -- as many events, of the same kinds

@@ -3,7 +3,6 @@ use Rattle.std.proofs.Common.{◌≡◌, ◌⊎◌, inl, inr, ◌<◌, ◌≤◌
 use Rattle.std.proofs.lemmas.Bool.{cases_lt}
 use Rattle.std.specs.Prelude.{◌≢◌, is_some, nat_lt, nat_le, Result, Ok, Err}
 use Rattle.std.proofs.lemmas.Bool.Decides.{nat_tests}
-use Rattle.std.proofs.lemmas.Bool.{true≢false}
 use Rattle.x64_insn.specs.declared.types.Insn.{Insn}
 use Rattle.x64_insn.specs.declared.types.Insn.TheVariants as insn
 use Rattle.x64_insn.specs.declared.types.StepLeak.{StepLeak}
@@ -15,9 +14,8 @@ use Rattle.jz_leak.specs.declared.event.Event.TheVariants as event
 use Rattle.x64_decode.specs.declared.Decoded.{Decoded}
 use Rattle.x64_decode.specs.declared.Decoded.TheVariants as decoded
 use Rattle.x64_decode.specs.Decoding.{decoded_of}
-use Rattle.x64_machine.specs.declared.step.Step.{Step}
 use Rattle.x64_machine.specs.declared.step.Step.TheVariants.{Fault}
-use Rattle.x64_machine.specs.Steps.{Config, Moved, Ran, insn_at, at_entry, is_ret, fault_move, moved, by_insn, step_of, branches_of, accesses_of, divisions_of, events_of, steps_of}
+use Rattle.x64_machine.specs.Steps.{Config, Moved, Ran, insn_at, at_entry, is_ret, moved, by_insn, step_of, branches_of, accesses_of, divisions_of, events_of, steps_of}
 use Rattle.x64_machine.proofs.MachineRunning.{end_stays}
 use Rattle.x64_same_events.specs.SameEvents.{ReturnsFromEntry, Begins}
 use Rattle.x64_same_events.proofs.BothEffects.{ShowsAsMuch, AtOnePlace, BothLeave, effects, returns_show, next_place, jump_place}
@@ -194,11 +192,11 @@ module _ (base other : ℕ) (c d : Config) where
 
 -- ---- whole runs
 
--- a run that has not ended never faults, and its RET ends it
-pub record GoesOn (code : List ℕ) (base : ℕ) (c : Config) : Type 0 where
+-- a run that never faults, and within so many steps its RET ends it
+pub record GoesOn (code : List ℕ) (base : ℕ) (c : Config) (k : ℕ) : Type 0 where
   pub fits : base + length code ≤ 2 ^ 64
   pub no_fault : (j : ℕ) (f : FaultKind) → (step_of code base (steps_of code base c j).after).answer ≢ Fault f
-  pub returns : ReturnsFromEntry code base c
+  pub returns : ReturnsFromEntry code base c k
 
 module _ (code : List ℕ) (base : ℕ) where
   running_step : (c : Config) → c.ended ≡ false → step_of code base c ≡ by_insn c (insn_at code base c.state.rip)
@@ -225,18 +223,18 @@ module _ (code : List ℕ) (base : ℕ) where
   silent : (k : ℕ) (c : Config) → c.ended ≡ true → (steps_of code base c k).events ≡ []
   silent k c e = ap (λ (r : Ran). r.events) (end_stays code base k c e)
 
-  next_goes : (c : Config) → GoesOn code base c → GoesOn code base (step_of code base c).after
-  next_goes c g = record {
+  next_goes : (c : Config) (k : ℕ) → GoesOn code base c (suc k) → GoesOn code base (step_of code base c).after k
+  next_goes c k g = record {
     fits = g.fits;
     no_fault = λ j f e. g.no_fault (suc j) f (ap (λ (x : Config). (step_of code base x).answer) (more_steps c j) ∙ e);
-    returns = λ j len e i. ap at_entry (sym (more_steps c j)) ∙ g.returns (suc j) len (ap (λ (x : Config). x.ended) (more_steps c j) ∙ e) (ap (λ (x : Config). insn_at code base x.state.rip) (more_steps c j) ∙ i);
+    returns = λ j len lt e i. ap at_entry (sym (more_steps c j)) ∙ g.returns (suc j) len (omega (arith, lt)) (ap (λ (x : Config). x.ended) (more_steps c j) ∙ e) (ap (λ (x : Config). insn_at code base x.state.rip) (more_steps c j) ∙ i);
   }
 
-  here_no_fault : (c : Config) → GoesOn code base c → (f : FaultKind) → (step_of code base c).answer ≢ Fault f
-  here_no_fault c g f e = g.no_fault zero f (ap (λ (x : Config). (step_of code base x).answer) (no_step c) ∙ e)
+  here_no_fault : (c : Config) (k : ℕ) → GoesOn code base c k → (f : FaultKind) → (step_of code base c).answer ≢ Fault f
+  here_no_fault c k g f e = g.no_fault zero f (ap (λ (x : Config). (step_of code base x).answer) (no_step c) ∙ e)
 
-  here_returns : (c : Config) → GoesOn code base c → c.ended ≡ false → (len : ℕ) → insn_at code base c.state.rip ≡ decoded.Insn insn.Ret len → at_entry c ≡ true
-  here_returns c g e len i = ap at_entry (sym (no_step c)) ∙ g.returns zero len (ap (λ (x : Config). x.ended) (no_step c) ∙ e) (ap (λ (x : Config). insn_at code base x.state.rip) (no_step c) ∙ i)
+  here_returns : (c : Config) (k : ℕ) → GoesOn code base c (suc k) → c.ended ≡ false → (len : ℕ) → insn_at code base c.state.rip ≡ decoded.Insn insn.Ret len → at_entry c ≡ true
+  here_returns c k g e len i = ap at_entry (sym (no_step c)) ∙ g.returns zero len (omega arith) (ap (λ (x : Config). x.ended) (no_step c) ∙ e) (ap (λ (x : Config). insn_at code base x.state.rip) (no_step c) ∙ i)
 
 -- equal lists whose fronts are as long have equal fronts and backs
 fronts : (xs ys ps qs : List Event) → length xs ≡ length ys → xs ++ ps ≡ ys ++ qs → (xs ≡ ys) × (ps ≡ qs)
@@ -248,27 +246,27 @@ fronts (x ∷ xs) (y ∷ ys) ps qs n e =
     (ap (λ (z : Event). z ∷ xs) (ap (first_event x) e) ∙ ap (λ (zs : List Event). y ∷ zs) h.0, h.1)
 
 module _ (code : List ℕ) (base other : ℕ) where
-  one_step : (c d : Config) → GoesOn code base c → GoesOn code other d → (c.ended ≡ false) → (d.ended ≡ false) → AtOnePlace base other c.state.rip d.state.rip → BothStep base other (step_of code base c) (step_of code other d)
-  one_step c d g h e f on =
+  one_step : (k : ℕ) (c d : Config) → GoesOn code base c (suc k) → GoesOn code other d (suc k) → (c.ended ≡ false) → (d.ended ≡ false) → AtOnePlace base other c.state.rip d.state.rip → BothStep base other (step_of code base c) (step_of code other d)
+  one_step k c d g h e f on =
       let same : insn_at code base c.state.rip ≡ insn_at code other d.state.rip = found_alike code base other c.state.rip d.state.rip g.fits h.fits on in
       let x : step_of code other d ≡ by_insn d (insn_at code base c.state.rip) = running_step code other d f ∙ ap (by_insn d) (sym same) in
       subst (λ (m : Moved). BothStep base other m (step_of code other d)) (sym (running_step code base c e))
       (subst (λ (m : Moved). BothStep base other (by_insn c (insn_at code base c.state.rip)) m) (sym x)
-      (decoded_both base other c d (insn_at code base c.state.rip) on (here_returns code base c g e) (λ len i. here_returns code other d h f len (sym same ∙ i))
-      (λ p i. here_no_fault code base c g p (ap (λ (m : Moved). m.answer) (running_step code base c e) ∙ i))
-      (λ p i. here_no_fault code other d h p (ap (λ (m : Moved). m.answer) x ∙ i))))
+      (decoded_both base other c d (insn_at code base c.state.rip) on (here_returns code base c k g e) (λ len i. here_returns code other d k h f len (sym same ∙ i))
+      (λ p i. here_no_fault code base c (suc k) g p (ap (λ (m : Moved). m.answer) (running_step code base c e) ∙ i))
+      (λ p i. here_no_fault code other d (suc k) h p (ap (λ (m : Moved). m.answer) x ∙ i))))
 
-  both_show : (k i j : ℕ) (c d : Config) → GoesOn code base c → GoesOn code other d → BothGo base other c d → k ≤ i → k ≤ j
+  both_show : (k i j : ℕ) (c d : Config) → GoesOn code base c k → GoesOn code other d k → BothGo base other c d → k ≤ i → k ≤ j
       → (steps_of code base c i).events ≡ (steps_of code other d j).events → (steps_of code base c k).events ≡ (steps_of code other d k).events
   both_show zero i j c d g h b le more e = no_events code base c ∙ sym (no_events code other d)
   both_show (suc k) zero j c d g h b le more e = absurd (omega (arith, le))
   both_show (suc k) (suc i) zero c d g h b le more e = absurd (omega (arith, more))
   both_show (suc k) (suc i) (suc j) c d g h (inl x) le more e = silent code base (suc k) c x.0 ∙ sym (silent code other (suc k) d x.1)
   both_show (suc k) (suc i) (suc j) c d g h (inr x) le more e =
-      let s = one_step c d g h x.0 x.1 x.2 in
+      let s = one_step k c d g h x.0 x.1 x.2 in
       let f = fronts (events_of (step_of code base c).leak) (events_of (step_of code other d).leak) (steps_of code base (step_of code base c).after i).events (steps_of code other (step_of code other d).after j).events s.0
       (sym (more_events code base c i) ∙ e ∙ more_events code other d j) in
-      let r = both_show k i j (step_of code base c).after (step_of code other d).after (next_goes code base c g) (next_goes code other d h) (s.1 f.0) (omega (arith, le)) (omega (arith, more)) f.1 in
+      let r = both_show k i j (step_of code base c).after (step_of code other d).after (next_goes code base c k g) (next_goes code other d k h) (s.1 f.0) (omega (arith, le)) (omega (arith, more)) f.1 in
       more_events code base c k ∙ ap (λ (es : List Event). es ++ (steps_of code base (step_of code base c).after k).events) f.0
       ∙ ap (λ (es : List Event). events_of (step_of code other d).leak ++ es) r ∙ sym (more_events code other d k)
 
@@ -277,20 +275,20 @@ module _ (code : List ℕ) (base other : ℕ) where
       absurd (nf NoInsn (ap (λ (m : Moved). m.answer) (running_step [] n c e ∙ ap (by_insn c) (none_there n c.state.rip))))
   some_code (x ∷ xs) n c e nf = omega arith
 
-  pub same_events : (s t : Config) → Begins code base s → Begins code other t → (i j k : ℕ) → k ≤ i → k ≤ j
+  pub same_events : (s t : Config) → Begins code base s → Begins code other t → (i j k : ℕ) → k ≤ i → k ≤ j → ReturnsFromEntry code base s k → ReturnsFromEntry code other t k
       → (steps_of code base s i).events ≡ (steps_of code other t j).events → (steps_of code base s k).events ≡ (steps_of code other t k).events
-  same_events s t a b i j k le more e =
+  same_events s t a b i j k le more ret rut e =
       both_show k i j s t first second
       (inr (a.running, b.running, (0, omega arith, at_begin base s.state.rip a.entry (below base s first a.running a.fits), at_begin other t.state.rip b.entry (below other t second b.running b.fits)))) le more e
     where
-      first : GoesOn code base s
-      first = record { fits = a.fits; no_fault = a.no_fault; returns = a.returns }
+      first : GoesOn code base s k
+      first = record { fits = a.fits; no_fault = a.no_fault; returns = ret }
 
-      second : GoesOn code other t
-      second = record { fits = b.fits; no_fault = b.no_fault; returns = b.returns }
+      second : GoesOn code other t k
+      second = record { fits = b.fits; no_fault = b.no_fault; returns = rut }
 
-      below : (n : ℕ) (c : Config) → GoesOn code n c → c.ended ≡ false → n + length code ≤ 2 ^ 64 → n < 2 ^ 64
-      below n c g f fits = let p = some_code code n c f (here_no_fault code n c g) in omega (arith, p, fits)
+      below : (n : ℕ) (c : Config) → GoesOn code n c k → c.ended ≡ false → n + length code ≤ 2 ^ 64 → n < 2 ^ 64
+      below n c g f fits = let p = some_code code n c f (here_no_fault code n c k g) in omega (arith, p, fits)
 
       at_begin : (n r : ℕ) → r ≡ n → n < 2 ^ 64 → r ≡ (n + 0) % 2 ^ 64
       at_begin n r h lt = omega (arith, h, lt)

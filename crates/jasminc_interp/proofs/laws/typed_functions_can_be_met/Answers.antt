@@ -1,6 +1,6 @@
 use Rattle.jz_preconditions.proofs.LeastMeets.{least_meets}
 use Rattle.jasminc_source.proofs.Causing.{text_typed}
-use Rattle.jasminc_interp.proofs.Parameters.{asked_well}
+use Rattle.jz_stated.proofs.Annotated.{asked_well}
 use Rattle.jasminc_interp.proofs.laws.typed_functions_can_be_met.Goals as goal
 
 pub returns : goal.returns

@@ -1,25 +1,33 @@
-use Rattle.std.proofs.Common.{◌≤◌, None, map, length, sym, subst}
+use Rattle.std.proofs.Common.{◌≡◌, ◌≤◌, [], None, map, length, sym, subst}
 use Rattle.jz_tree.specs.declared.program.Fun.{Fun}
+use Rattle.jz_preconditions.specs.Refusals.{refused_places}
 use Rattle.jz_fact_sets.specs.Kept.{AreDifferent}
 use Rattle.jz_given.specs.Giving.{param_of}
 use Rattle.jz_block_facts.specs.Heads.{HasNoFor, plain_block}
-use Rattle.jz_first_alarm.specs.FirstAlarms.{HasFirstAlarm}
-use Rattle.jz_safe.proofs.Ready.{different, few, plain}
+use Rattle.jz_safe.proofs.Ready.{different, few, plain, none_refused, of_stated}
 use Rattle.jz_safe.proofs.Alarms.{no_alarm}
 use Rattle.jz_safe.proofs.finding.safe.Goals as goal
 
+pub stated-requires : goal.stated-requires
+stated-requires c = subst (λ (g : Fun). refused_places g ≡ []) (sym c.fun-function.ensures) (none_refused c.args.expanded c.requires)
+
 pub first_alarm-requires-clause-different : goal.first_alarm-requires-clause-different
 first_alarm-requires-clause-different c =
-    subst (λ (g : Fun). AreDifferent (map (param_of c.args.pres.now) g.params)) (sym c.fun.ensures) (different c.args.expanded c.requires.text c.args.pres.now)
+    subst (λ (g : Fun). AreDifferent (map (param_of c.in_ok-pres.pres) g.params)) (sym c.fun-function.ensures) (different c.args.expanded c.requires c.in_ok-pres.pres)
 
 pub first_alarm-requires-clause-few : goal.first_alarm-requires-clause-few
-first_alarm-requires-clause-few c = subst (λ (g : Fun). length g.params ≤ 64) (sym c.fun.ensures) (few c.args.expanded c.requires.text)
+first_alarm-requires-clause-few c = subst (λ (g : Fun). length g.params ≤ 64) (sym c.fun-function.ensures) (few c.args.expanded c.requires)
 
 pub first_alarm-requires-clause-plain : goal.first_alarm-requires-clause-plain
-first_alarm-requires-clause-plain c = subst (λ (g : Fun). HasNoFor (plain_block g.body)) (sym c.fun.ensures) (plain c.args.expanded c.requires.text)
+first_alarm-requires-clause-plain c = subst (λ (g : Fun). HasNoFor (plain_block g.body)) (sym c.fun-function.ensures) (plain c.args.expanded c.requires)
 
 pub invariant_of-result : goal.invariant_of-result
 invariant_of-result c =
     record {
-      rule = ∣ no_alarm c.args.expanded.fun (subst (λ ps. HasFirstAlarm c.args.expanded.fun ps None) c.requires.stated (subst (λ (g : Fun). HasFirstAlarm g c.args.pres.now None) c.fun.ensures c.in_ok-first_alarm.ensures.none)) ∣₁;
+      text = ∣ c.requires ∣₁;
+      rule = ∣ no_alarm c.args.expanded.fun (of_stated c.args.expanded.fun c.fun-function.result.now c.in_ok-pres.pres None c.fun-function.ensures c.in_ok-pres.ensures c.in_ok-first_alarm.ensures.none) ∣₁;
     }
+
+pub returns-clause-none : goal.returns-clause-none
+returns-clause-none c =
+    of_stated c.args.expanded.fun c.fun-function.result.now c.in_ok-pres.pres None c.fun-function.ensures c.in_ok-pres.ensures c.in_ok-first_alarm.ensures.none

@@ -1,0 +1,3 @@
+pub mod Meetings
+pub mod Turns
+pub mod KeptMeetings
