@@ -75,7 +75,7 @@ fn fact_of(alloc: Global, fun: &Fun, words: &str) -> Result<Option<Fact>, AllocE
 }
 
 fn size_of(to: &Seq<Lval>) -> Size {
-    match to.as_slice().get(0) {
+    match to.get(0) {
         Some(Lval::Var(var)) => match kind_of(var) {
             Kind::Word(size) => size,
             _ => Size::S64,
@@ -86,7 +86,7 @@ fn size_of(to: &Seq<Lval>) -> Size {
 
 /// The right side that comes next, with the size of what it is assigned to.
 fn right_side<'a>(place: &Place<'a>) -> Option<(&'a Expr, Size)> {
-    let stmt = place.body.as_slice().get(place.came)?;
+    let stmt = place.body.get(place.came)?;
     match &stmt.kind {
         StmtKind::Assign {
             to,

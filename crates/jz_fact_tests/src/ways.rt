@@ -143,7 +143,7 @@ fn step<'a>(given: &Given, place: &Place<'a>, word: &str) -> Result<Option<Place
     requires body { HasNoFor (plain_block place.now.body.now) }
     ensures { IfOk result (λ found. IfSome found (λ place. HasNoFor (plain_block place.body.now))) }
 {
-    match place.body.as_slice().get(place.came) {
+    match place.body.get(place.came) {
         None => Ok(None),
         Some(stmt) => {
             let found = step_over(given, place, stmt, word)?;
