@@ -50,7 +50,8 @@ pub record AddsLine (p : Program) (place : ℕ) (old new : List ℕ) : Type 0 wh
   pub function : Fun
   pub there : slice_get p.funs place ≡ Some function
   pub line :
-      ((is_exported function.kind ≡ true) × IsConstant p function × (new ≡ old ++ yes_line function))
+      ((is_exported function.kind ≡ true) × IsConstant p function
+      × (new ≡ old ++ yes_line function))
       ⊎ ((is_exported function.kind ≡ false) × (new ≡ old))
 
 -- the function at a place is exported, is this one by its name, and has this breach first

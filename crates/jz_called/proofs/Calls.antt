@@ -20,6 +20,7 @@ use Rattle.jz_ir.specs.Places.{place_at}
 use Rattle.jz_listing.specs.declared.compiled.Arg.{Arg}
 use Rattle.jz_listing.specs.declared.compiled.Compiled.{Compiled}
 use Rattle.x64_machine.specs.Steps.{Config, steps_of}
+use Rattle.x64_same_events.specs.SameEvents.{ReturnsFromEntry}
 use Rattle.jz_operations.specs.declared.operation.Stacked.{Stacked}
 use Rattle.jz_operations.specs.Values.{Value, word, State}
 use Rattle.jz_operations.specs.Insns.{reg_of}
@@ -178,12 +179,13 @@ module _ (f : Ir) (vs : List Stacked) (m : MachineCode) (c : Compiled) (ready : 
     ends_too : (n left : ℕ) (τ : State) (l : Leak) (ws : List ℕ) → Goes (variables (frame_of vs)) (body_of f.body) n σ (End τ left l) → AreResults τ c.rets f.results ws → EndsToo m c words rsp0 base s n ws τ.memory l
     ends_too n left τ l ws g given =
         let r = does.ends n left τ l g in
+        let e : EndsAt m.bytes base r.steps s (apply_of m.transformer l rsp0) r.last = subst (λ d. EndsAt m.bytes base r.steps d (apply_of m.transformer l rsp0) r.last) is_entered r.ends in
         record {
           fits = does.ends_fit n left τ l g;
           steps = r.steps;
           within = subst (λ i. r.steps ≤ i * (n + 1)) (sym has.insns) r.within;
-          ends = ends_with m.bytes r.steps (apply_of m.transformer l rsp0) r.last ws τ.memory (sym has.code)
-              (subst (λ d. EndsAt m.bytes base r.steps d (apply_of m.transformer l rsp0) r.last) is_entered r.ends) (agrees τ r.last ws r.returned given);
+          ends = ends_with m.bytes r.steps (apply_of m.transformer l rsp0) r.last ws τ.memory (sym has.code) e (agrees τ r.last ws r.returned given);
+          returns = subst (λ bs. ReturnsFromEntry bs base s r.steps) (sym has.code) e.returns;
         }
 
     -- ---- where it runs on
@@ -200,6 +202,7 @@ module _ (f : Ir) (vs : List Stacked) (m : MachineCode) (c : Compiled) (ready : 
           running_there = ap (λ x. x.after.ended) (sym (to r.steps)) ∙ r.going.opens r.steps (omega arith);
           shown = ap (λ x. x.events) (sym (to r.steps)) ∙ ap (λ x. x.events) r.going.is;
           no_fault = no_fault;
+          returns = subst (λ bs. ReturnsFromEntry bs base s r.steps) (sym has.code) (subst (λ d. ReturnsFromEntry m.bytes base d r.steps) is_entered r.going.returns);
         }
 
 pub called : (f : Ir) (vs : List Stacked) (m : MachineCode) (c : Compiled) → IsReady f → IsCodeOf f vs m → HasCode c m → DoesAsCalled f vs m c

@@ -12,6 +12,7 @@ use Rattle.jz_runs.specs.Rules.{End, Cut, Stuck, Goes}
 use Rattle.jz_listing.specs.declared.compiled.Arg.{Arg}
 use Rattle.jz_listing.specs.declared.compiled.Compiled.{Compiled}
 use Rattle.x64_machine.specs.Steps.{Config, steps_of}
+use Rattle.x64_same_events.specs.SameEvents.{ReturnsFromEntry}
 use Rattle.jz_operations.specs.declared.operation.Stacked.{Stacked}
 use Rattle.jz_operations.specs.Values.{Value, word, State}
 use Rattle.jz_placing.specs.Variables.{variables}
@@ -65,6 +66,7 @@ module _ (m : MachineCode) (c : Compiled) (words : List ℕ) (rsp0 base : ℕ) (
     pub steps : ℕ
     pub within : steps ≤ step_bound c n
     pub ends : EndsWith c words rsp0 base s steps results memory (apply_of m.transformer l rsp0)
+    pub returns : ReturnsFromEntry c.code base s steps
 
   -- the bytes run after n steps, never fault, and show after some number of steps, short of n by
   -- one for each instruction at most, what the transformer makes of the leak
@@ -77,6 +79,7 @@ module _ (m : MachineCode) (c : Compiled) (words : List ℕ) (rsp0 base : ℕ) (
     pub running_there : (steps_of c.code base s steps).after.ended ≡ false
     pub shown : (steps_of c.code base s steps).events ≡ apply_of m.transformer l rsp0
     pub no_fault : NeverFaults c.code base s
+    pub returns : ReturnsFromEntry c.code base s steps
 
 -- from each start on each input that meets the preconditions, beside a state from which the body
 -- is never stuck

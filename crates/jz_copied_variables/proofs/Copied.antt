@@ -1,11 +1,12 @@
 -- The tree of copies: each part is over variables with their declarations, and the heads of copies mark what they may.
-use Rattle.std.proofs.Common.{◌≡◌, ℕ, suc, ◌+◌, List, [], ◌∷◌, ◌++◌, Option, Some, None, map, flat_map, Bool, true, false, ◌&&◌, refl, ap, sym, ◌∙◌, subst, bytes_eq, inl, inr, if◌then◌else◌, append-nil}
+use Rattle.std.proofs.Common.{◌≡◌, ℕ, zero, suc, ◌+◌, List, [], ◌∷◌, ◌++◌, Option, Some, None, map, flat_map, Bool, true, false, ◌&&◌, ◌||◌, refl, ap, sym, ◌∙◌, subst, bytes_eq, inl, inr, if◌then◌else◌, append-nil}
 use Rattle.std.specs.Prelude.{◌⊎◌, All, Contains, slice_get, option_map, option_to_list}
 use Rattle.std.proofs.lemmas.Bool.{and_parts, false≢true}
 use Rattle.std.proofs.lemmas.List.Elements.{All-nil, All-cons, All-head, All-tail, All-contains}
 use Rattle.jz_tree.proofs.Texts.{bytes_eq-true}
 use Rattle.jz_tree.specs.Span.{Span}
 use Rattle.jz_tree.specs.declared.expr.BinOp.{BinOp}
+use Rattle.jz_tree.specs.declared.expr.Decl.{Decl}
 use Rattle.jz_tree.specs.declared.expr.Expr.{Expr}
 use Rattle.jz_tree.specs.declared.expr.Expr.TheVariants as expr
 use Rattle.jz_tree.specs.declared.expr.Storage.{Storage}
@@ -22,14 +23,15 @@ use Rattle.jz_tree.specs.declared.program.Program.{Program}
 use Rattle.jz_type_names.specs.declared.kinds.Kind as scoped
 use Rattle.jz_type_names.specs.declared.kinds.Kind.TheVariants as scope
 use Rattle.jz_type_names.specs.Kinds as typed
-use Rattle.jz_type_names.specs.Kinds.{declared_of, known_of, kind_of, same_storage, is_array_kind}
+use Rattle.jz_type_names.specs.Kinds.{Known, declared_of, known_of, kind_of, written_length, same_storage, same_kind, is_array_kind}
 use Rattle.jz_type_names.specs.Parts.{exprs_of, left_exprs, left_vars, left_cells}
 use Rattle.jz_type_names.proofs.Empty.{both, all_empty}
 use Rattle.jz_type_rows.specs.Indexes.{indexed_at, indexed_in, indexed_by}
-use Rattle.jz_type_sizes.specs.Calls.{agrees, is_declared}
+use Rattle.jz_type_sizes.specs.Calls.{same_length, agrees, is_declared}
+use Rattle.jz_judgement.proofs.Nothing.{size_same}
 use Rattle.jz_judgement.specs.WellTyped as well
 use Rattle.jz_judgement.specs.WellTyped.{InPairs, PassedBy, Passed, Calls}
-use Rattle.jz_types.specs.Carried.{declared_in}
+use Rattle.jz_types.specs.Carried.{declared_in, known_in as known_named}
 use Rattle.jz_runs.specs.Trees.{done, op, quiet, choose, loop, each, call}
 use Rattle.jz_meaning.specs.declared.access.Kind.{Kind}
 use Rattle.jz_meaning.specs.declared.access.Kind.TheVariants as kind
@@ -62,7 +64,7 @@ use Rattle.jz_ready.specs.CopiedKinds.{callees_of, kind_in, copied_kinds}
 use Rattle.jz_ready.proofs.CopyNumbers.{Numbered, numbered}
 use Rattle.jz_standing.specs.Typing.{AreMarks}
 use Rattle.jz_stuck_runs.proofs.Trees.{assign_parts}
-use Rattle.jz_copied_variables.specs.Variables.{stack_array, is_framed, framed_in, frame_of, IsSeen, IsOver, LeftOver, OverOperation, OverBody}
+use Rattle.jz_copied_variables.specs.Variables.{stack_array, is_framed, framed_in, frame_of, is_lent, own_known, known_at, IsSeen, IsOver, LeftOver, OverOperation, OverBody}
 use Rattle.jz_copied_variables.specs.VariableLaws.{CopiesHaveVariables}
 use Rattle.jz_copied_variables.proofs.Over.{variable_over, over_in, if_over_in, left_over_in, lefts_over_in, all_over_in}
 use Rattle.jz_copied_variables.proofs.Seen.{mark_seen, Follows, seen_in}
@@ -136,18 +138,23 @@ module _ (P Q : Var → Type 0) (frame : Key → Bool) (names : Names) (f : (v :
   operation_in (meaningless at) h = absurd h
 
 -- ---- a call of g in a body of f
-stored_alike : (a b : Storage) → same_storage a b ≡ true → (k : Kind) → stack_array a k ≡ stack_array b k
-stored_alike storage.Reg storage.Reg h k = refl
-stored_alike storage.Stack storage.Stack h k = refl
-stored_alike storage.Inline storage.Inline h k = refl
-stored_alike storage.Reg storage.Stack h k = absurd (false≢true h)
-stored_alike storage.Reg storage.Inline h k = absurd (false≢true h)
-stored_alike storage.Stack storage.Reg h k = absurd (false≢true h)
-stored_alike storage.Stack storage.Inline h k = absurd (false≢true h)
-stored_alike storage.Inline storage.Reg h k = absurd (false≢true h)
-stored_alike storage.Inline storage.Stack h k = absurd (false≢true h)
+storages_same : (a b : Storage) → same_storage a b ≡ true → a ≡ b
+storages_same storage.Reg storage.Reg h = refl
+storages_same storage.Stack storage.Stack h = refl
+storages_same storage.Inline storage.Inline h = refl
+storages_same a b h = absurd (false≢true h)
 
-module _ (p : Program) (kinds : Kinds) (frame : Key → Bool) (f g : Fun) (kf : whole.IsKnown p f) (kg : whole.IsKnown p g) (outer : Names) (outer_follows : Follows p kinds frame f outer) where
+kinds_alike : (a b : scoped.Kind) → same_kind a b ≡ true → a ≡ b
+kinds_alike scope.Int scope.Int h = refl
+kinds_alike scope.Truth scope.Truth h = refl
+kinds_alike (scope.Word y) (scope.Word z) h = ap (λ x. scope.Word x) (size_same y z h)
+kinds_alike (scope.Array y) (scope.Array z) h = ap (λ x. scope.Array x) (size_same y z h)
+kinds_alike a b h = absurd (false≢true h)
+
+declared_alike : (c d : Decl) → c.storage ≡ d.storage → kind_of c.ty ≡ kind_of d.ty → Some (declared_of c) ≡ Some (declared_of d)
+declared_alike c d s k = λ i. Some (record { storage = s i; kind = k i })
+
+module _ (p : Program) (kinds : Kinds) (frame : Key → Bool) (store : Key → Known) (f g : Fun) (kf : whole.IsKnown p f) (kg : whole.IsKnown p g) (outer : Names) (outer_follows : Follows p kinds frame store f outer) where
   abbrev X : Expr → Type 0
   X e = HasKept p f e
 
@@ -159,19 +166,22 @@ module _ (p : Program) (kinds : Kinds) (frame : Key → Bool) (f g : Fun) (kf : 
 
   -- ---- the array that is passed
   abbrev Alike : List ℕ → List ℕ → Type 0
-  Alike m n = (kinds_in p f m 0 ≡ kinds_in p g n 0) × (is_framed (declared_in p f m) ≡ is_framed (declared_in p g n))
+  Alike m n = (kinds_in p f m 0 ≡ kinds_in p g n 0) × (is_framed (declared_in p f m) ≡ is_framed (declared_in p g n)) × (known_named p f m ≡ known_named p g n)
 
   -- of a parameter with its declaration, and of the array that is passed
   alike_by : (q : Param) (kq : Y q.var) (v : Var) (kv : Kept p f v) → is_declared kq.decl v ≡ true → (ref_of v).kind ≡ (ref_of q.var).kind → Alike (ref_of v).name (ref_of q.var).name
   alike_by q kq v kv d same =
       let there : declared_in p f (ref_of v).name ≡ Some kv.decl = ap (declared_in p f) (ref_name v) ∙ (sym kv.carries ∙ kv.some) in
       let here : declared_in p g (ref_of q.var).name ≡ Some kq.decl = ap (declared_in p g) (ref_name q.var) ∙ (sym kq.carries ∙ kq.some) in
-      let stored = (and_parts (same_storage kq.decl.storage kv.decl.storage) _ (subst (λ o. agrees kq.decl o ≡ true) kv.some d)).0 in
+      let agreed = and_parts (same_storage kq.decl.storage kv.decl.storage) (same_kind (kind_of kq.decl.ty) (kind_of kv.decl.ty) && same_length (written_length kq.decl) (written_length kv.decl)) (subst (λ o. agrees kq.decl o ≡ true) kv.some d) in
+      let stored = storages_same kq.decl.storage kv.decl.storage agreed.0 in
+      let typed_alike = kinds_alike (kind_of kq.decl.ty) (kind_of kv.decl.ty) (and_parts (same_kind (kind_of kq.decl.ty) (kind_of kv.decl.ty)) (same_length (written_length kq.decl) (written_length kv.decl)) agreed.1).0 in
       let kv_kind : (ref_of v).kind ≡ declared_kind kv.decl = ref_kind v ∙ ap (λ o. kind_or (option_map declared_kind o)) kv.some in
       let kq_kind : (ref_of q.var).kind ≡ declared_kind kq.decl = ref_kind q.var ∙ ap (λ o. kind_or (option_map declared_kind o)) kq.some in
       let kinds_same : declared_kind kv.decl ≡ declared_kind kq.decl = sym kv_kind ∙ (same ∙ kq_kind) in (
         ap (λ o. kind_or (option_map declared_kind o)) there ∙ (kinds_same ∙ sym (ap (λ o. kind_or (option_map declared_kind o)) here)),
-        ap is_framed there ∙ (ap (stack_array kv.decl.storage) kinds_same ∙ (sym (stored_alike kq.decl.storage kv.decl.storage stored (declared_kind kq.decl)) ∙ sym (ap is_framed here))),
+        ap is_framed there ∙ (ap (stack_array kv.decl.storage) kinds_same ∙ (sym (ap (λ s. stack_array s (declared_kind kq.decl)) stored) ∙ sym (ap is_framed here))),
+        ap (option_map declared_of) there ∙ (sym (declared_alike kq.decl kv.decl stored typed_alike) ∙ sym (ap (option_map declared_of) here)),
       )
 
   passed_by : (q : Param) (kq : Y q.var) (e : Expr) → X e → (k : scoped.Kind) → kind_of kq.decl.ty ≡ k → is_array_kind k ≡ true → well.PassedAs k kq.decl e → (y : Ref) → array_of e ≡ Some y → y.kind ≡ (ref_of q.var).kind → Alike y.name (ref_of q.var).name
@@ -193,15 +203,17 @@ module _ (p : Program) (kinds : Kinds) (frame : Key → Bool) (f g : Fun) (kf : 
       let s : PassedBy (Some kq.decl) e = subst (λ o. PassedBy o e) kq.some t in
       subst (λ o. Alike (name_or (ref_of q.var).name o) (ref_of q.var).name) (sym ao) (passed_by q kq e x (kind_of kq.decl.ty) refl array s y ao (yk ∙ sym is))
 
-  module _ (j : ℕ) (own : (n : List ℕ) → (kinds n j ≡ kinds_in p g n 0) × (frame (record { name = n; copy = j; cell = None }) ≡ is_framed (declared_in p g n))) where
+  module _ (j : ℕ) where
     abbrev At_n : List ℕ → List ℕ × ℕ → Type 0
-    At_n n m = (kinds m.0 m.1 ≡ kinds_in p g n 0) × (frame (record { name = m.0; copy = m.1; cell = None }) ≡ is_framed (declared_in p g n))
+    At_n n m =
+        (kinds m.0 m.1 ≡ kinds_in p g n 0) × (frame (record { name = m.0; copy = m.1; cell = None }) ≡ is_framed (declared_in p g n))
+        × (store (record { name = m.0; copy = m.1; cell = None }) ≡ known_named p g n)
 
-    named : (ps : List Param) (es : List Expr) → Args ps es → InPairs Passed ps es → All (λ (q : Param). Y q.var) ps → All X es → (n : List ℕ) → At_n n (callee_names outer j ps es n)
-    named [] es h t k x n = own n
-    named (q ∷ ps) [] h t k x n = own n
-    named (q ∷ ps) (e ∷ es) h (well.next one more) k x n =
-        by_name (bytes_eq (ref_of q.var).name n && is_array (ref_of q.var).kind) refl (named ps es h.1 more (All-tail (λ (q : Param). Y q.var) q ps k) (All-tail X e es x) n)
+    named : (ps : List Param) (es : List Expr) → Args ps es → InPairs Passed ps es → All (λ (q : Param). Y q.var) ps → All X es → (n : List ℕ) → (is_lent ps n ≡ false → At_n n (n, j)) → At_n n (callee_names outer j ps es n)
+    named [] es h t k x n own = own refl
+    named (q ∷ ps) [] h t k x n own = absurd h
+    named (q ∷ ps) (e ∷ es) h (well.next one more) k x n own =
+        by_name (bytes_eq (ref_of q.var).name n && is_array (ref_of q.var).kind) refl own (λ later. named ps es h.1 more (All-tail (λ (q : Param). Y q.var) q ps k) (All-tail X e es x) n later)
       where
         here : (bytes_eq (ref_of q.var).name n && is_array (ref_of q.var).kind) ≡ true → At_n n (outer (name_or n (array_of e)))
         here b =
@@ -209,23 +221,23 @@ module _ (p : Program) (kinds : Kinds) (frame : Key → Bool) (f g : Fun) (kf : 
             let same : (ref_of q.var).name ≡ n = bytes_eq-true (ref_of q.var).name n s.0 in
             let a = subst (λ m. Alike (name_or m (array_of e)) m) same (array_alike q (All-head (λ (q : Param). Y q.var) q ps k) e (All-head X e es x) one h.0 s.1) in
             let o = outer_follows (name_or n (array_of e)) in
-            (o.0 ∙ a.0, o.1 ∙ a.1)
+            (o.0 ∙ a.0, o.1 ∙ a.1, o.2 ∙ a.2)
 
-        by_name : (b : Bool) → (bytes_eq (ref_of q.var).name n && is_array (ref_of q.var).kind) ≡ b → At_n n (callee_names outer j ps es n)
+        by_name : (b : Bool) → (bytes_eq (ref_of q.var).name n && is_array (ref_of q.var).kind) ≡ b → ((b || is_lent ps n) ≡ false → At_n n (n, j)) → ((is_lent ps n ≡ false → At_n n (n, j)) → At_n n (callee_names outer j ps es n))
             → At_n n (if b then outer (name_or n (array_of e)) else callee_names outer j ps es n)
-        by_name true t later = here t
-        by_name false t later = later
+        by_name true t last later = here t
+        by_name false t last later = later last
 
   -- ---- the copies of arguments and results
-  module _ (inner : Names) (inner_follows : Follows p kinds frame g inner) where
+  module _ (inner : Names) (inner_follows : Follows p kinds frame store g inner) where
     abbrev S : Var → Type 0
-    S v = IsSeen kinds frame v
+    S v = IsSeen kinds frame store v
 
     out_seen : (v : Var) → Kept p f v → S (var_in outer v)
-    out_seen = seen_in p kinds frame f (legal p f kf) outer outer_follows
+    out_seen = seen_in p kinds frame store f (legal p f kf) outer outer_follows
 
     in_seen : (v : Var) → Y v → S (var_in inner v)
-    in_seen = seen_in p kinds frame g (legal p g kg) inner inner_follows
+    in_seen = seen_in p kinds frame store g (legal p g kg) inner inner_follows
 
     abbrev O : Operation → Type 0
     O = OverOperation S frame
@@ -286,7 +298,11 @@ module _ (p : Program) (kinds : Kinds) (frame : Key → Bool) (f g : Fun) (kf : 
 
 -- ---- bodies
 -- fs: the functions of the copies
-module _ (p : Program) (h : IsTypedText p) (fs : List Fun) where
+abbrev OwnStore : Program → List Fun → (Key → Known) → Type 0
+OwnStore p fs store =
+    (c : ℕ) (g : Fun) (n : List ℕ) → slice_get fs c ≡ Some g → is_lent g.params n ≡ false → store (record { name = n; copy = c; cell = None }) ≡ known_named p g n
+
+module _ (p : Program) (h : IsTypedText p) (fs : List Fun) (store : Key → Known) (own_store : OwnStore p fs store) where
   abbrev K : Kinds
   K n c = kind_in p (slice_get fs c) n
 
@@ -294,7 +310,7 @@ module _ (p : Program) (h : IsTypedText p) (fs : List Fun) where
   F k = framed_in p (slice_get fs k.copy) k.name
 
   abbrev pub Seen : Var → Type 0
-  Seen v = IsSeen K F v
+  Seen v = IsSeen K F store v
 
   abbrev known : (g : Fun) → Contains p.funs g → whole.IsKnown p g
   known g has = All-contains (whole.IsKnown p) p.funs g (all_known p h.typed h.text) has
@@ -310,20 +326,20 @@ module _ (p : Program) (h : IsTypedText p) (fs : List Fun) where
   four g to a b c d = λ i x l. (a i x l, b i x l, c i x l, d i x l)
 
   -- before what is over
-  copies_over : (t : Block) (g : Fun) (names : Names) (c : ℕ) (rest : Block) → Contains p.funs g → Follows p K F g names → Numbered fs c t → Body g t → HoldsParts p g t → OverBody Seen F rest → OverBody Seen F (inlined inline_calls names c t rest)
+  copies_over : (t : Block) (g : Fun) (names : Names) (c : ℕ) (rest : Block) → Contains p.funs g → Follows p K F store g names → Numbered fs c t → Body g t → HoldsParts p g t → OverBody Seen F rest → OverBody Seen F (inlined inline_calls names c t rest)
   copies_over done g names c rest has ns n b x r = r
   copies_over (op o t) g names c rest has ns n b x r =
-      let seen = seen_in p K F g (legal p g (known g has)) names ns in
+      let seen = seen_in p K F store g (legal p g (known g has)) names ns in
       (operation_in (Kept p g) Seen F names seen o (operation_over p g F o x.0 b.0), copies_over t g names c rest has ns n b.1 x.1 r)
   copies_over (quiet o t) g names c rest has ns n b x r = absurd b
   copies_over (choose q y z t) g names c rest has ns n b x r = (
-    over_in names (Kept p g) Seen (seen_in p K F g (legal p g (known g has)) names ns) (expr_over p g q.cond x.0.kept b.0 x.0.indexed),
+    over_in names (Kept p g) Seen (seen_in p K F store g (legal p g (known g has)) names ns) (expr_over p g q.cond x.0.kept b.0 x.0.indexed),
     copies_over y g names c done has ns n.0 b.1 x.1 tt,
     copies_over z g names (c + copies y) done has ns n.1 b.2 x.2 tt,
     copies_over t g names (c + copies y + copies z) rest has ns n.2 b.3 x.3 r,
   )
   copies_over (loop w y q z t) g names c rest has ns n b x r = (
-    over_in names (Kept p g) Seen (seen_in p K F g (legal p g (known g has)) names ns) (expr_over p g q.cond x.0.kept b.0 x.0.indexed),
+    over_in names (Kept p g) Seen (seen_in p K F store g (legal p g (known g has)) names ns) (expr_over p g q.cond x.0.kept b.0 x.0.indexed),
     copies_over y g names c done has ns n.0 b.1 x.1 tt,
     copies_over z g names (c + copies y) done has ns n.1 b.2 x.2 tt,
     copies_over t g names (c + copies y + copies z) rest has ns n.2 b.3 x.3 r,
@@ -337,19 +353,19 @@ module _ (p : Program) (h : IsTypedText p) (fs : List Fun) where
       let y = indexed_parts p g q.to None (rhs.Call x.0.name q.args x.0.place) q.args None refl x.0.said.indexed in
       let params = kept_params p q.callee kc.text kc.names in
       let vars = (parted (Kept p q.callee) (map (λ (v : Param). v.var) q.callee.params) q.callee.vars (kept_own p q.callee kc.text kc.names)).1 in
-      let own : (m : List ℕ) → (K m c ≡ kinds_in p q.callee m 0) × (F (record { name = m; copy = c; cell = None }) ≡ is_framed (declared_in p q.callee m)) =
-      λ m. (ap (λ o. kind_in p o m) n.0, ap (λ o. framed_in p o m) n.0) in
-      let follows : Follows p K F q.callee inner = named p K F g q.callee kg kc names ns c own q.callee.params q.args b.0.arguments (passed_of q.callee q.to q.args x.0.calls) params s.rights in
+      let own : (m : List ℕ) → is_lent q.callee.params m ≡ false → (K m c ≡ kinds_in p q.callee m 0) × (F (record { name = m; copy = c; cell = None }) ≡ is_framed (declared_in p q.callee m)) × (store (record { name = m; copy = c; cell = None }) ≡ known_named p q.callee m) =
+      λ m t. (ap (λ o. kind_in p o m) n.0, ap (λ o. framed_in p o m) n.0, own_store c q.callee m n.0 t) in
+      let follows : Follows p K F store q.callee inner = λ m. named p K F store g q.callee kg kc names ns c q.callee.params q.args b.0.arguments (passed_of q.callee q.to q.args x.0.calls) params s.rights m (own m) in
       let lefts = four g q.to (flat_parts (HasKept p g) left_exprs q.to s.lefts) (flat_parts (Kept p g) left_vars q.to s.vars) y.lefts y.cells in
       let given : List Operation = result_ops names inner (call_place q.to q.at) q.to q.callee.result in
       let last : Block = inlined inline_calls names (suc c + copies z) t rest in
       let behind : OverBody Seen F last = copies_over t g names (suc c + copies z) rest has ns n.2 b.2 x.2 r in
-      let back = in_turn_over Seen F given last (results_over p K F g q.callee kg kc names ns inner follows q.to q.callee.result (call_place q.to q.at) b.0.results lefts (kept_used p q.callee kc.text kc.names).1) behind in
+      let back = in_turn_over Seen F given last (results_over p K F store g q.callee kg kc names ns inner follows q.to q.callee.result (call_place q.to q.at) b.0.results lefts (kept_used p q.callee kc.text kc.names).1) behind in
       let deeper : HoldsParts p q.callee z = subst (HoldsParts p q.callee) (sym x.1) (holds p h q.callee x.0.of_program) in
       let body = copies_over z q.callee inner (suc c) (in_turn given last) x.0.of_program follows n.1 b.1 deeper back in
       in_turn_over Seen F (argument_ops names inner (call_place q.to q.at) q.callee.params q.args) (quiet (inline_calls.mark names c q) (inlined inline_calls inner (suc c) z (in_turn given last)))
-      (arguments_over p K F g q.callee kg kc names ns inner follows q.callee.params q.args (call_place q.to q.at) b.0.arguments params s.rights y.rights)
-      (marks_over p K F g q.callee kg kc names ns inner follows q.callee.vars vars, body)
+      (arguments_over p K F store g q.callee kg kc names ns inner follows q.callee.params q.args (call_place q.to q.at) b.0.arguments params s.rights y.rights)
+      (marks_over p K F store g q.callee kg kc names ns inner follows q.callee.vars vars, body)
 
 -- ---- the whole
 module _ (p : Program) (f : Fun) (typed : IsTypedProgram p) (text : IsText p) (has : Contains p.funs f) where
@@ -362,10 +378,18 @@ module _ (p : Program) (f : Fun) (typed : IsTypedProgram p) (text : IsText p) (h
   body_numbered : Numbered fs 1 (body_of p f)
   body_numbered = subst (λ l. Numbered (f ∷ l) 1 (body_of p f)) (append-nil (callees_of (body_of p f))) (numbered (body_of p f) (f ∷ []) [] 1 refl)
 
-  body_over : OverBody (IsSeen (copied_kinds p f) (frame_of p f)) (frame_of p f) (inlined_body p f)
+  -- what is declared in each copy by itself
+  own_store : OwnStore p fs (known_at p f)
+  own_store zero g n e t = ap (λ x. known_named p x n) (same_item f g e)
+    where
+      same_item : (x y : Fun) → Some x ≡ Some y → x ≡ y
+      same_item x y e = cc
+  own_store (suc c) g n e t = ap (λ o. own_known p o n) e ∙ ap (λ b. if b then None else known_named p g n) t
+
+  body_over : OverBody (IsSeen (copied_kinds p f) (frame_of p f) (known_at p f)) (frame_of p f) (inlined_body p f)
   body_over =
       let b = All-contains (IsTypedFunction p) p.funs f (bodies_law p typed text) has in
-      copies_over p read fs (body_of p f) f own_names 1 done has (λ n. (refl, refl)) body_numbered b.body (holds p read f has) tt
+      copies_over p read fs (known_at p f) own_store (body_of p f) f own_names 1 done has (λ n. (refl, refl, refl)) body_numbered b.body (holds p read f has) tt
 
 pub copies_have_variables : CopiesHaveVariables
 copies_have_variables p f typed text has = body_over p f typed text has

@@ -1,5 +1,6 @@
 -- What is known of the variables in an expression and in a tree of copies.
-use Rattle.std.specs.Prelude.{◌≡◌, ℕ, ℤ, Bool, true, false, List, ◌∷◌, Option, Some, None, All, slice_get}
+use Rattle.std.specs.Prelude.{◌≡◌, ◌&&◌, ◌||◌, if◌then◌else◌, ℕ, zero, suc, ℤ, Bool, true, false, List, [], ◌∷◌, Option, Some, None, All, slice_get}
+use Rattle.std.specs.Str.{bytes_eq}
 use Rattle.jz_tree.specs.Size.{Size}
 use Rattle.jz_tree.specs.Span.{Span}
 use Rattle.jz_tree.specs.declared.expr.BinOp.{BinOp}
@@ -14,12 +15,13 @@ use Rattle.jz_tree.specs.declared.expr.Expr.TheViews.{out-Expr, out-Access, out-
 use Rattle.jz_tree.specs.declared.stmt.Lval.{Lval}
 use Rattle.jz_tree.specs.declared.stmt.Lval.TheVariants as lval
 use Rattle.jz_tree.specs.declared.program.Fun.{Fun}
+use Rattle.jz_tree.specs.declared.program.Param.{Param}
 use Rattle.jz_tree.specs.declared.program.Program.{Program}
-use Rattle.jz_type_names.specs.Kinds.{declared_of, known_of, is_array, is_register_array, is_inline_int}
+use Rattle.jz_type_names.specs.Kinds.{Known, declared_of, known_of, is_array, is_register_array, is_inline_int}
 use Rattle.jz_type_storage.specs.Declarations.{is_kept}
 use Rattle.jz_select.specs.Look.{gives_number}
 use Rattle.jz_judgement.specs.HasType.{Layer}
-use Rattle.jz_types.specs.Carried.{declared_in}
+use Rattle.jz_types.specs.Carried.{declared_in, known_in}
 use Rattle.jz_texts.specs.Declared.{IsCountedDecl}
 use Rattle.jz_runs.specs.Trees.{done, op, quiet, choose, loop, each, call}
 use Rattle.jz_meaning.specs.declared.access.Kind.{Kind}
@@ -30,6 +32,7 @@ use Rattle.jz_meaning.specs.Statements.{Operation, assign, instruction, unset, m
 use Rattle.jz_meaning.specs.Runs.{body_of}
 use Rattle.jz_run_laws.specs.Kinds.{Kinds}
 use Rattle.jz_run_laws.specs.DeclaredKinds.{IsDeclared}
+use Rattle.jz_bodies.specs.Calls as calls
 use Rattle.jz_ready.specs.CopiedKinds.{callees_of}
 use Rattle.jz_standing.specs.Typing.{AreMarks}
 
@@ -51,15 +54,37 @@ framed_in p (Some g) n = is_framed (declared_in p g n)
 abbrev pub frame_of : Program → Fun → Key → Bool
 frame_of p f k = framed_in p (slice_get (f ∷ callees_of (body_of p f)) k.copy) k.name
 
+-- ---- storage and type of what a copy declares
+-- an array that is passed is the caller's
+abbrev pub is_lent : List Param → List ℕ → Bool
+is_lent [] n = false
+is_lent (q ∷ ps) n =
+    (bytes_eq (ref_of q.var).name n && calls.is_array (ref_of q.var).kind) || is_lent ps n
+
+abbrev pub own_known : Program → Option Fun → List ℕ → Known
+own_known p None n = None
+own_known p (Some g) n = if is_lent g.params n then None else known_in p g n
+
+-- the function itself is the copy 0, and its parameters are its own
+abbrev pub copy_known : Program → Fun → List ℕ → ℕ → Known
+copy_known p f n zero = known_in p f n
+copy_known p f n (suc c) = own_known p (slice_get (callees_of (body_of p f)) c) n
+
+abbrev pub known_at : Program → Fun → Key → Known
+known_at p f k = copy_known p f k.name k.copy
+
 -- ---- variables
--- a variable of a copy, with its declaration, which typing admits; kinds: those of the copies
-pub record IsSeen (kinds : Kinds) (frame : Key → Bool) (v : Var) : Type 0 where
+-- a variable of a copy, with its declaration, which typing admits; kinds and known: those of the
+-- copies
+pub record IsSeen
+    (kinds : Kinds) (frame : Key → Bool) (known : Key → Known) (v : Var) : Type 0 where
   pub decl : Decl
   pub is : (out-Var v).decl ≡ Some decl
   pub kept : is_kept (declared_of decl) ≡ true
   pub counted : IsCountedDecl decl
   pub declared : IsDeclared kinds (ref_of v)
   pub framed : frame (key_of (ref_of v)) ≡ stack_array decl.storage (declared_kind decl)
+  pub stored : known (key_of (ref_of v)) ≡ known_of v
   pub entire : (ref_of v).cell ≡ None
 
 -- ---- integers that are known when the text is compiled

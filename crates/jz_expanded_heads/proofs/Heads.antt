@@ -43,7 +43,7 @@ use Rattle.jz_fact_entry.specs.Entry.{IsOther, DifferByName}
 use Rattle.jz_fact_runs.specs.Fine.{IsResult, AreResults}
 use Rattle.jz_never_stuck.specs.Safety.{SharesHead}
 use Rattle.jz_plain_operands.specs.Plain.{IsPlain, a_word, a_slot, a_flag, an_array}
-use Rattle.jz_copied_variables.specs.Variables.{is_framed, framed_in, frame_of, IsSeen}
+use Rattle.jz_copied_variables.specs.Variables.{is_framed, framed_in, frame_of, copy_known, known_at, IsSeen}
 use Rattle.jz_copied_variables.proofs.Legal.{legal}
 use Rattle.jz_plain_expansions.specs.PlainExpansions.{without_int, expanded_kinds}
 use Rattle.jz_plain_expansions.proofs.Variables.{plain_seen}
@@ -136,7 +136,7 @@ module _ (p : Program) (f : Fun) (k : whole.IsKnown p f) where
   Kept v = IsKept (declared_in p f) v
 
   -- a variable of the function itself
-  seen_own : (v : Var) → Kept v → IsSeen C F v
+  seen_own : (v : Var) → Kept v → IsSeen C F (known_at p f) v
   seen_own v h =
       let zero : (ref_of v).copy ≡ 0 = ref_copy v ∙ h.plain.0 in
       let name : declared_in p f (ref_of v).name ≡ Some h.decl = ap (declared_in p f) (ref_name v) ∙ (sym h.carries ∙ h.some) in
@@ -147,6 +147,7 @@ module _ (p : Program) (f : Fun) (k : whole.IsKnown p f) where
         counted = h.counted;
         declared = ap (λ c. part_of (C (ref_of v).name c) (ref_of v).cell) zero ∙ h.own_kind;
         framed = ap (λ c. framed_in p (slice_get (f ∷ callees_of (body_of p f)) c) (ref_of v).name) zero ∙ ap is_framed name;
+        stored = ap (copy_known p f (ref_of v).name) zero ∙ (ap (option_map declared_of) name ∙ sym (ap (option_map declared_of) h.some));
         entire = ref_cell v ∙ h.plain.1;
       }
 

@@ -70,7 +70,7 @@ words_end f b given n last m2 m l2 l r (went ns vs) is goes e =
       memory = ap (λ (x : Returned). x.memory) h.0;
     }
 
-body_end : (f : Fun) (b : statements.Block) (given : Given) (n m : ℕ) (r : Returned) (l : Leak) (out : Outcome source.State Reason Leak)
+pub body_end : (f : Fun) (b : statements.Block) (given : Given) (n m : ℕ) (r : Returned) (l : Leak) (out : Outcome source.State Reason Leak)
     → Goes statements.source b n (entry_state f given.words given.memory) out → outcome_of_body f.result out ≡ End r m l → EndsSo f b given n m r l
 body_end f b given n m r l (End last m2 l2) goes e = words_end f b given n last m2 m l2 l r (result_words f.result last.store) refl goes e
 body_end f b given n m r l (Cut k) goes e = cc
@@ -87,7 +87,7 @@ words_cut memory n k l (went ns vs) e = cc
 same_cut : (k l : Leak) → ◌≡◌ {A = FunOutcome} (Cut k) (Cut l) → k ≡ l
 same_cut k l e = cc
 
-body_cut : (f : Fun) (b : statements.Block) (given : Given) (n : ℕ) (l : Leak) (out : Outcome source.State Reason Leak) → Goes statements.source b n (entry_state f given.words given.memory) out → outcome_of_body f.result out ≡ Cut l
+pub body_cut : (f : Fun) (b : statements.Block) (given : Given) (n : ℕ) (l : Leak) (out : Outcome source.State Reason Leak) → Goes statements.source b n (entry_state f given.words given.memory) out → outcome_of_body f.result out ≡ Cut l
     → Goes statements.source b n (entry_state f given.words given.memory) (Cut l)
 body_cut f b given n l (End last m k) goes e = absurd (words_cut last.memory m k l (result_words f.result last.store) e)
 body_cut f b given n l (Cut k) goes e = subst (λ x. Goes statements.source b n (entry_state f given.words given.memory) (Cut x)) (same_cut k l e) goes
@@ -122,13 +122,13 @@ module _ (p : Program) (f : Fun) (c : Compiled) (made : IsMade p f c) where
 
   -- ---- one input
   module _ (words : List ℕ) (memory : Memory) (n : ℕ) (meets : declared.MeetsPreconditions f words memory) where
-    abbrev values : List Value
+    abbrev pub values : List Value
     values = values_of c.args words
 
-    abbrev given : Given
+    abbrev pub given : Given
     given = record { words = values; memory = memory }
 
-    as_listed : printed.MeetsPreconditions c words memory
+    pub as_listed : printed.MeetsPreconditions c words memory
     as_listed = meets_printed f c words memory made.listed.args made.listed.pre meets
 
     input : IsInput p f values
@@ -142,31 +142,31 @@ module _ (p : Program) (f : Fun) (c : Compiled) (made : IsMade p f c) where
     expanded_follows k o run = made.expansion.carries.forth given given k o (refl, (input, meets.bytes)) run
 
     -- ---- over variables
-    abbrev start : source.State
+    abbrev pub start : source.State
     start = entry_state made.expanded values memory
 
-    abbrev begun : State
+    abbrev pub begun : State
     begun = entry_of made.home made.expanded.params values memory
 
     passed : ArePassed made.home argument_registers (parameters_of f) made.body.entry
     passed = subst (λ ps. ArePassed made.home argument_registers ps made.body.entry) (ap (λ ps. parameters_of (record f { params = ps })) made.expansion.params) made.lowering.made.entry
 
-    related : IsRelated made.home start begun
+    pub related : IsRelated made.home start begun
     related =
         subst (λ ps. IsRelated made.home (entry_state (record made.expanded { params = ps }) values memory) (entry_of made.home ps values memory)) (sym made.expansion.params)
         (entered (frame_of made.stack) made.home made.lowering.homing memory f.params values (words_for made.home argument_registers f.params made.body.entry c.args words passed made.params as_listed.sizes) meets.bytes)
 
-    entry : Begins made.body c.args words memory begun
+    pub entry : Begins made.body c.args words memory begun
     entry =
         subst (λ ps. Begins made.body c.args words memory (entry_of made.home ps values memory)) (sym made.expansion.params)
         (begins made.home argument_registers f.params made.body c.args words memory passed made.listed.args)
 
-    never : (k : ℕ) → Goes (variables (frame_of made.stack)) (ir.body_of made.body.body) k begun (Stuck tt) → ⊥
+    pub never : (k : ℕ) → Goes (variables (frame_of made.stack)) (ir.body_of made.body.body) k begun (Stuck tt) → ⊥
     never k g =
         let b = made.lowering.carries.back start begun k tt related g in
         made.safe words memory k b.0 meets (record { out = Stuck b.0; goes = b.2; gives = refl })
 
-    does : DoesAsCalled made.body made.stack made.code c
+    pub does : DoesAsCalled made.body made.stack made.code c
     does = called made.body made.stack made.code c made.ready made.is_code made.has
 
     -- ---- one start

@@ -162,9 +162,9 @@ either_true true w h t = h
 either_true false w h t = absurd (false≢true t)
 
 -- ---- expressions
-module _ (kinds : Kinds) (frame : Key → Bool) where
+module _ (kinds : Kinds) (frame : Key → Bool) (store : Key → Known) where
   abbrev P : Var → Type 0
-  P v = IsSeen kinds frame v
+  P v = IsSeen kinds frame store v
 
   -- an array in registers with a number before it that is in range
   module _ (v : Var) (h : P v) where

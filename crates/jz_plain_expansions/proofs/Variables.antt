@@ -58,7 +58,7 @@ module _ (kinds : Kinds) (frame : Key → Bool) where
   abbrev pub K : Kinds
   K n c = without_int (kinds n c)
 
-  module _ (v : Var) (h : IsSeen kinds frame v) where
+  module _ {store : Key → Known} (v : Var) (h : IsSeen kinds frame store v) where
     abbrev kind_there : (ref_of v).kind ≡ declared_kind h.decl
     kind_there = kind_is kinds frame v h
 

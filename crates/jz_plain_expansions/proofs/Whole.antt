@@ -7,6 +7,7 @@ use Rattle.jz_tree.specs.declared.expr.Var.{Var}
 use Rattle.jz_tree.specs.declared.stmt.Lval.{Lval}
 use Rattle.jz_tree.specs.declared.program.Fun.{Fun}
 use Rattle.jz_tree.specs.declared.program.Program.{Program}
+use Rattle.jz_type_names.specs.Kinds.{Known}
 use Rattle.jz_type_names.specs.Scopes.{variables_of}
 use Rattle.jz_types.specs.TypedPrograms.{IsTypedProgram}
 use Rattle.jz_texts.specs.Texts.{IsText}
@@ -34,7 +35,7 @@ use Rattle.jz_ready.specs.CopiedKinds.{copied_kinds}
 use Rattle.jz_ready.proofs.Whole.{ready_law}
 use Rattle.jz_expansion.specs.Expansions.{IsExpansion}
 use Rattle.jz_plain_operands.specs.Plain.{IsPlainExpr, IsPlainLeft}
-use Rattle.jz_copied_variables.specs.Variables.{frame_of, IsSeen, IsMarked, OverBody}
+use Rattle.jz_copied_variables.specs.Variables.{frame_of, known_at, IsSeen, IsMarked, OverBody}
 use Rattle.jz_copied_variables.proofs.Copied.{copies_have_variables}
 use Rattle.jz_plain_expansions.specs.PlainExpansions.{expanded_kinds, IfPlain, IsMarkPlain, IsPlainBody, IsWithinBody, ExpansionsArePlain}
 use Rattle.jz_plain_expansions.proofs.Clear.{IsClear, IfClear, LeftClear}
@@ -44,9 +45,9 @@ use Rattle.jz_plain_expansions.proofs.Final.{plain_of, left_plain}
 use Rattle.jz_plain_expansions.proofs.Within.{IfNone, LeftNone, ExprNone, assign_none, instruction_none, condition_none}
 
 -- ---- words in place of cells
-module _ (kinds : Kinds) (frame : Key → Bool) where
+module _ (kinds : Kinds) (frame : Key → Bool) (store : Key → Known) where
   abbrev P : Var → Type 0
-  P v = IsSeen kinds frame v
+  P v = IsSeen kinds frame store v
 
   abbrev D : Kinds
   D = K kinds frame
@@ -55,19 +56,19 @@ module _ (kinds : Kinds) (frame : Key → Bool) where
   lefts_plain [] h q = All-nil (IsPlainLeft D frame)
   lefts_plain (d ∷ ds) h q =
       All-cons (IsPlainLeft D frame) (left_with_scalars d) (map left_with_scalars ds)
-      (left_plain kinds frame d (All-head (LeftClear P) d ds h) (All-head LeftNone (left_with_scalars d) (map left_with_scalars ds) q))
+      (left_plain kinds frame store d (All-head (LeftClear P) d ds h) (All-head LeftNone (left_with_scalars d) (map left_with_scalars ds) q))
       (lefts_plain ds (All-tail (LeftClear P) d ds h) (All-tail LeftNone (left_with_scalars d) (map left_with_scalars ds) q))
 
   all_plain : (es : List Expr) → All (IsClear P) es → All ExprNone (map with_scalars es) → All (IsPlainExpr D frame) (map with_scalars es)
   all_plain [] h q = All-nil (IsPlainExpr D frame)
   all_plain (e ∷ es) h q =
       All-cons (IsPlainExpr D frame) (with_scalars e) (map with_scalars es)
-      (plain_of kinds frame (All-head (IsClear P) e es h) (All-head ExprNone (with_scalars e) (map with_scalars es) q)).is
+      (plain_of kinds frame store (All-head (IsClear P) e es h) (All-head ExprNone (with_scalars e) (map with_scalars es) q)).is
       (all_plain es (All-tail (IsClear P) e es h) (All-tail ExprNone (with_scalars e) (map with_scalars es) q))
 
   if_plain : (c : Option Expr) → IfClear P c → IfNone (option_map with_scalars c) → IfPlain D frame (option_map with_scalars c)
   if_plain None h q = tt
-  if_plain (Some e) h q = (plain_of kinds frame h q).is
+  if_plain (Some e) h q = (plain_of kinds frame store h q).is
 
   marks_plain : (o : Operation) → IsMarked P frame o → IsMarkPlain D frame o
   marks_plain (assign to o e c at) h = absurd h
@@ -82,16 +83,16 @@ module _ (kinds : Kinds) (frame : Key → Bool) where
   scaled_plain wanted u_done f r w = r w
   scaled_plain wanted (u_op (assigns {to = to} {op = o} {e = e} {c = c} {at = at} h) x) f r w =
       let n = assign_none (map left_with_scalars to) o (with_scalars e) (option_map with_scalars c) at w.0 in
-      ((lefts_plain to f.0.0 n.lefts, (plain_of kinds frame f.0.1 n.value).is, if_plain c f.0.2 n.condition), scaled_plain wanted x f.1 r w.1)
+      ((lefts_plain to f.0.0 n.lefts, (plain_of kinds frame store f.0.1 n.value).is, if_plain c f.0.2 n.condition), scaled_plain wanted x f.1 r w.1)
   scaled_plain wanted (u_op (instructs {to = to} {n = n} {args = args} {at = at} h) x) f r w =
       let q = instruction_none (map left_with_scalars to) n (map with_scalars args) at w.0 in
       ((lefts_plain to f.0.0 q.0, all_plain args f.0.1 q.1), scaled_plain wanted x f.1 r w.1)
   scaled_plain wanted (u_quiet {o = o} q x) f r w = (subst (IsMarkPlain D frame) q (marks_plain o f.0), scaled_plain wanted x f.1 r w)
   scaled_plain wanted (u_if {p} (tests h) a b l m x) f r w =
-      ((plain_of kinds frame f.0 (condition_none (with_scalars p.cond) w.0)).is, scaled_plain wanted a f.1 (λ n. tt) w.1, scaled_plain wanted b f.2 (λ n. tt) w.2, scaled_plain wanted x f.3 r w.3)
+      ((plain_of kinds frame store f.0 (condition_none (with_scalars p.cond) w.0)).is, scaled_plain wanted a f.1 (λ n. tt) w.1, scaled_plain wanted b f.2 (λ n. tt) w.2, scaled_plain wanted x f.3 r w.3)
   scaled_plain wanted (u_arm c y x) f r w = absurd c
   scaled_plain wanted (u_while {p} l (tests h) q b m n x) f r w =
-      ((plain_of kinds frame f.0 (condition_none (with_scalars p.cond) w.0)).is, scaled_plain wanted q f.1 (λ n. tt) w.1, scaled_plain wanted b f.2 (λ n. tt) w.2, scaled_plain wanted x f.3 r w.3)
+      ((plain_of kinds frame store f.0 (condition_none (with_scalars p.cond) w.0)).is, scaled_plain wanted q f.1 (λ n. tt) w.1, scaled_plain wanted b f.2 (λ n. tt) w.2, scaled_plain wanted x f.3 r w.3)
   scaled_plain wanted (u_once q c x) f r w = absurd c
   scaled_plain wanted (u_for v es x) f r w = absurd v
 
@@ -101,12 +102,12 @@ module _ (p : Program) (f g : Fun) (k : Change) (count : ℕ) (typed : IsTypedPr
   whole = record { typed = typed; text = text }
 
   abbrev Q : Var → Type 0
-  Q v = IsSeen (copied_kinds p f) (frame_of p f) v
+  Q v = IsSeen (copied_kinds p f) (frame_of p f) (known_at p f) v
 
   copied : OverBody Q (frame_of p f) (inlined_body p f)
   copied = copies_have_variables p f typed text has
 
-  rounds : ClearBody Q (frame_of p f) (plain_body x.unrolled)
+  pub rounds : ClearBody Q (frame_of p f) (plain_body x.unrolled)
   rounds = rounds_are_clear Q (frame_of p f) (inline_names (variables_of (inlined_function p f))) x.body.body (subst (OverBody Q (frame_of p f)) (inlined_is p f) copied)
 
   ready : IsReady (copied_kinds p f) (plain_body x.unrolled)
@@ -114,14 +115,14 @@ module _ (p : Program) (f g : Fun) (k : Change) (count : ℕ) (typed : IsTypedPr
       ready_law p f (inline_names (variables_of (inlined_function p f))) no_numbers x.body.behind (plain_body x.unrolled) x.rounds whole has
       (subst (λ (t : Block). Unrolls (unrolling (inline_names (variables_of (inlined_function p f)))) t no_numbers done (plain_body x.unrolled) x.body.behind x.rounds) (sym (inlined_is p f)) x.body.body)
 
-  rewritten : Rewrites (arrays (copied_kinds p f)) (plain_body x.unrolled) done (plain_body (function_with_scalars x.unrolled)) (scalar_change x.unrolled)
+  pub rewritten : Rewrites (arrays (copied_kinds p f)) (plain_body x.unrolled) done (plain_body (function_with_scalars x.unrolled)) (scalar_change x.unrolled)
   rewritten =
       (keeps_runs x.unrolled (function_with_scalars x.unrolled) (scalar_change x.unrolled) (record { function = refl; change = refl }) (copied_kinds p f) ready).rewritten
 
   whole_plain : IsPlainBody (expanded_kinds p f) (frame_of p f) (plain_body g)
   whole_plain =
       subst (λ h. IsPlainBody (expanded_kinds p f) (frame_of p f) (plain_body h)) (sym x.function)
-      (scaled_plain (copied_kinds p f) (frame_of p f) (copied_kinds p f) rewritten rounds (λ n. tt) (subst (λ h. IsWithinBody (plain_body h)) x.function within))
+      (scaled_plain (copied_kinds p f) (frame_of p f) (known_at p f) (copied_kinds p f) rewritten rounds (λ n. tt) (subst (λ h. IsWithinBody (plain_body h)) x.function within))
 
 pub expansions_are_plain : ExpansionsArePlain
 expansions_are_plain p f g k count typed text has x within = whole_plain p f g k count typed text has x within

@@ -2,15 +2,12 @@
 use Rattle.std.proofs.Common.{◌≡◌, ℕ}
 use Rattle.jz_tree.specs.declared.program.Fun.{Fun}
 use Rattle.jz_tree.specs.declared.program.Program.{Program}
-use Rattle.jz_runs.specs.Trees.{done, op, quiet, choose, loop, each, call}
-use Rattle.jz_meaning.specs.Statements.{Block}
 use Rattle.jz_change.specs.Changes.{Change}
 use Rattle.jz_function_runs.specs.FunctionRuns.{plain_body}
 use Rattle.jz_expanded_types.proofs.Expanded.{expansions_are_typed}
 use Rattle.jz_copied_variables.specs.Variables.{frame_of}
 use Rattle.jz_plain_expansions.specs.PlainExpansions.{expanded_kinds, IsWithinBody}
 use Rattle.jz_plain_expansions.proofs.Whole.{expansions_are_plain}
-use Rattle.jz_expanded_limits.specs.WithinBodies as limits
 use Rattle.jz_expanded_limits.proofs.Whole.{expansions_are_within}
 use Rattle.jz_expanded_classes.proofs.Whole.{expansions_are_classed}
 use Rattle.jz_expanded_runs.proofs.Followed.{expansions_keep_runs}
@@ -20,16 +17,7 @@ use Rattle.jz_fine_bodies.proofs.Whole.{bodies_are_fine}
 use Rattle.jz_never_stuck.specs.Safety.{IsFineFunction, SharesHead}
 use Rattle.jz_safe_functions.proofs.Whole as functions
 use Rattle.jz_safe_expansions.specs.SafeExpansions.{IsExpandedExport, ExpansionsAreFine, SafeIsNeverStuck, SourceIsNeverStuck}
-
--- a body within the limits
-within_so : (b : Block) → limits.IsWithinBody b → IsWithinBody b
-within_so done w = tt
-within_so (op o r) w = (w.0, within_so r w.1)
-within_so (quiet o r) w = within_so r w
-within_so (choose t a b r) w = (w.0, within_so a w.1, within_so b w.2, within_so r w.3)
-within_so (loop h q t b r) w = (w.0, within_so q w.1, within_so b w.2, within_so r w.3)
-within_so (each i b r) w = (within_so b w.0, within_so r w.1)
-within_so (call c b r) w = absurd w
+use Rattle.jz_safe_expansions.proofs.Within.{within_so}
 
 module _ (p : Program) (f g : Fun) (k : Change) (count : ℕ) (x : IsExpandedExport p f g k count) where
   head : IsFineHead (expanded_kinds p f) (frame_of p f) g × SharesHead f g
