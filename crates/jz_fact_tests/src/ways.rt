@@ -53,7 +53,7 @@ fn head<'a>(
 
 /// What comes behind the test of a branch with this answer, or behind that of a loop without a
 /// prologue that is true.
-fn arm<'a>(stmt: &'a Stmt, answer: bool) -> Option<Arm<'a>>
+fn arm_of<'a>(stmt: &'a Stmt, answer: bool) -> Option<Arm<'a>>
     requires { HasNoFor (statement_tree no_callees stmt.now done) }
     ensures { IfSome result (λ arm. HasNoFor (plain_block arm.body.now)) }
 {
@@ -92,7 +92,7 @@ fn answered<'a>(
     requires plain { HasNoFor (statement_tree no_callees stmt.now done) }
     ensures { IfOk result (λ found. IfSome found (λ place. HasNoFor (plain_block place.body.now))) }
 {
-    match arm(stmt, answer) {
+    match arm_of(stmt, answer) {
         None => Ok(None),
         Some(arm) => {
             let Arm { test, body } = arm;

@@ -1,5 +1,5 @@
 use Rattle.jz_fact_tests.proofs.Bodies.{yes_plain, no_plain, turn_plain}
-use Rattle.jz_fact_tests.proofs.ways.arm.Goals as goal
+use Rattle.jz_fact_tests.proofs.ways.arm_of.Goals as goal
 
 pub returns-then-answer : goal.returns-then-answer
 returns-then-answer c = yes_plain c.args.stmt.now c.in-If.test c.in-If.yes c.in-If.no c.in-If.is c.requires
