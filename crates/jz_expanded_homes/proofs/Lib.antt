@@ -1,0 +1,6 @@
+pub mod Frames
+pub mod Declared
+pub mod Homed
+pub mod Parts
+pub mod Bodies
+pub mod Whole
