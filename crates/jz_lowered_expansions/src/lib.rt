@@ -1,0 +1,7 @@
+//! Lowering refuses the expansion of a typed text at none of its covered statements. There is no
+//! code here.
+#![tactic(auto)]
+
+mod laws;
+
+pub use laws::expansions_have_code;
