@@ -1,5 +1,5 @@
--- What two runs leak of a function whose expansion is constant time, on inputs that are equal at its
--- public parameters. Nothing is asked of the other parameters and of memory.
+-- What two runs leak of a function whose expansion is constant time, on inputs that are equal at
+-- its public parameters. Nothing is asked of the other parameters and of memory.
 use Rattle.std.specs.Prelude.{◌≡◌, ℕ}
 use Rattle.jz_tree.specs.declared.program.Fun.{Fun}
 use Rattle.jz_tree.specs.declared.program.Program.{Program}
@@ -13,8 +13,8 @@ use Rattle.jz_equal_leaks.specs.Laws.{AreEqualAtPublic, LeakTheSame}
 use Rattle.jz_ct.specs.Told.{IsConstantTime}
 use Rattle.jz_safe_expansions.specs.SafeExpansions.{IsExpandedExport}
 
--- both ended, with as many turns left, or both were cut, and this change leaves the same of what they
--- leaked; or one of both is stuck
+-- both ended, with as many turns left, or both were cut, and this change leaves the same of what
+-- they leaked; or one of both is stuck
 abbrev pub LeakAlike : Change → FunOutcome → FunOutcome → Type 0
 LeakAlike k (End r n l) (End s m j) = (n ≡ m) × (map_of k l ≡ map_of k j)
 LeakAlike k (End r n l) (Cut j) = ⊥
