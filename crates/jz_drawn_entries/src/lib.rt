@@ -1,6 +1,6 @@
 //! The labels before the first statement of a function.
 #![tactic(auto)]
 
-mod entry;
+mod entering;
 
-pub use entry::entry;
+pub use entering::entry;

@@ -2,7 +2,7 @@ use Rattle.std.proofs.Common.{refl, ap, ◌∙◌, arith, map}
 use Rattle.jz_secrets.specs.Graphs.{arrows_of}
 use Rattle.jz_drawn_labels.specs.Kept.{asked_of}
 use Rattle.jz_drawn_entries.proofs.Entered.{entry_is}
-use Rattle.jz_drawn_entries.proofs.entry.entry.Goals as goal
+use Rattle.jz_drawn_entries.proofs.entering.entry.Goals as goal
 
 pub put_secrets-requires : goal.put_secrets-requires
 put_secrets-requires c = let e = c.new-table.ensures.floor in omega (arith, e)

@@ -1,6 +1,6 @@
 use Rattle.std.proofs.Common.{rules}
 use Rattle.jz_drawn_entries.proofs.Entered.{label_found, label_on, label_none}
-use Rattle.jz_drawn_entries.proofs.entry.has_label.Goals as goal
+use Rattle.jz_drawn_entries.proofs.entering.has_label.Goals as goal
 
 pub returns-then-is_label : goal.returns-then-is_label
 returns-then-is_label c =

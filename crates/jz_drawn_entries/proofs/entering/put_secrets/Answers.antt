@@ -1,6 +1,6 @@
 use Rattle.std.proofs.Common.{rules, ℕ, ◌≤◌, sym, subst}
 use Rattle.jz_drawn_entries.proofs.Entered.{secrets_begun, secrets_next, secrets_done}
-use Rattle.jz_drawn_entries.proofs.entry.put_secrets.Goals as goal
+use Rattle.jz_drawn_entries.proofs.entering.put_secrets.Goals as goal
 
 pub loop-param-init : goal.loop-param-init
 loop-param-init c = secrets_begun c.args.params.now c.args.node c.args.table.now
