@@ -1,9 +1,11 @@
-use Rattle.std.proofs.Common.{◌≡◌, ◌≤◌, [], None, map, length, sym, subst}
+use Rattle.std.proofs.Common.{◌≡◌, ◌≤◌, [], None, Some, map, length, sym, subst}
 use Rattle.jz_tree.specs.declared.program.Fun.{Fun}
 use Rattle.jz_preconditions.specs.Refusals.{refused_places}
 use Rattle.jz_fact_sets.specs.Kept.{AreDifferent}
 use Rattle.jz_given.specs.Giving.{param_of}
 use Rattle.jz_block_facts.specs.Heads.{HasNoFor, plain_block}
+use Rattle.jz_asked.specs.Asked.{alarm_of}
+use Rattle.jz_first_alarm.proofs.Stepping.{handed_on}
 use Rattle.jz_safe.proofs.Ready.{different, few, plain, none_refused, of_stated}
 use Rattle.jz_safe.proofs.Alarms.{no_alarm}
 use Rattle.jz_safe.proofs.finding.safe.Goals as goal
@@ -31,3 +33,9 @@ invariant_of-result c =
 pub returns-clause-none : goal.returns-clause-none
 returns-clause-none c =
     of_stated c.args.expanded.fun c.fun-function.result.now c.in_ok-pres.pres None c.fun-function.ensures c.in_ok-pres.ensures c.in_ok-first_alarm.ensures.none
+
+pub returns-in_err-first_alarm-clause-some : goal.returns-in_err-first_alarm-clause-some
+returns-in_err-first_alarm-clause-some c =
+    handed_on c.from_residual-in_err-first_alarm.result c.in_err-first_alarm.field-0.0 _ _ c.from_residual-in_err-first_alarm.ensures.1
+    (λ v h. of_stated c.args.expanded.fun c.fun-function.result.now c.in_ok-pres.pres (Some (alarm_of v)) c.fun-function.ensures c.in_ok-pres.ensures h)
+    c.in_err-first_alarm.ensures.some

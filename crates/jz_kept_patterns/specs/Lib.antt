@@ -1,0 +1,3 @@
+pub mod Matched
+pub mod Passes
+pub mod KeptPatterns

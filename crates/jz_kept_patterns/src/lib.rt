@@ -1,0 +1,7 @@
+//! Statements with a row of the pattern table through the passes of the expansion. There is no code
+//! here.
+#![tactic(auto)]
+
+mod laws;
+
+pub use laws::patterns_are_kept;
