@@ -1,13 +1,9 @@
 -- Which cause is the first, and when none stands before alarms.
-use Rattle.std.proofs.Common.{◌≡◌, ℕ, ◌<◌, List, arith, subst, sym}
-use Rattle.std.specs.Prelude.{All, Result, Ok, Err}
+use Rattle.std.proofs.Common.{◌≡◌, ℕ, List, arith, subst, sym}
+use Rattle.std.specs.Prelude.{All, Err}
 use Rattle.jz_tree.specs.Failure.{Failure}
 use Rattle.jz_tree.specs.Failure.TheVariants as failure
 use Rattle.jz_tree.specs.Failures.{IfRefused, IfAnswered}
-use Rattle.jz_parse.specs.Reading.{Reads}
-use Rattle.jz_texts.specs.Texts.{IsText}
-use Rattle.jz_texts.proofs.Reading.{read_so}
-use Rattle.jz_texts.proofs.Resolved.{stays}
 use Rattle.jz_tree.specs.declared.program.Program.{Program}
 use Rattle.jasminc_source.specs.declared.limits.FunLimit.{FunLimit}
 use Rattle.jasminc_source.specs.declared.unread.Unread as source
@@ -17,18 +13,13 @@ use Rattle.jasminc_source.specs.Exports.{WithinIfExported, HasLimit}
 use Rattle.jasminc_source.proofs.Causing.{types_as_read, first_unread, unread_early, types_one, text_typed}
 use Rattle.jasminc_source.proofs.Limiting.{none_passes}
 use Rattle.jz_asked.specs.declared.alarms.Alarm as asked
+use Rattle.jasminc_expansions.proofs.Typing.{text_text}
 use Rattle.jasminc_check.specs.declared.refused.Refused.{Refused}
 use Rattle.jasminc_check.specs.declared.refused.Refused.TheVariants.{Unread, Limit, Alarm}
 use Rattle.jasminc_check.specs.Safety.{AreSafe, HasAlarm}
 use Rattle.jasminc_check.specs.Causes.{PassesLimit, GivesAlarm, Clear, IsFirstCause}
 use Rattle.jasminc_check.specs.Answers.{all_stages, IsDone, Answers}
 use Rattle.jasminc_check.proofs.Judged.{safe_no_alarm}
-
--- ---- a typed text is a program of a text
-
-pub text_text : (text : List ℕ) (p : Program) → TypesAs text p → IsText p
-unfolding Reads
-text_text text p t = subst IsText (sym t.is) (stays t.written (read_so text t.reads.0 t.written t.reads.1 t.reads.2))
 
 module _ (text : List ℕ) where
   before_reading : (u : source.Unread) → IsUnread text u → Clear text (unread_stage u)

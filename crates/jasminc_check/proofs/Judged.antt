@@ -29,7 +29,7 @@ use Rattle.jz_type_rows.specs.Exports.{is_exported}
 use Rattle.jz_asked.specs.declared.alarms.Alarm as asked
 use Rattle.jz_asked.specs.Asked.{alarm_of}
 use Rattle.jz_first_alarm.specs.FirstAlarms.{IsGiven, HasFirstAlarm}
-use Rattle.jasminc_check.specs.Safety.{IsJudged, SafeIfExported, HasAlarm, SafeLine, AreSafe}
+use Rattle.jasminc_check.specs.Safety.{SafeIfExported, HasAlarm, SafeLine, AreSafe}
 use Rattle.jasminc_check.specs.JudgementLaws.{OneJudgement}
 
 -- what is given of two functions with one body and one head

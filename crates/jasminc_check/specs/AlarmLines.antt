@@ -1,11 +1,12 @@
 -- The line of an alarm, without its line feed.
-use Rattle.std.specs.Prelude.{ℕ, List, ◌++◌, codes, decimal, Option, Some, None}
+use Rattle.std.specs.Prelude.{ℕ, List, ◌++◌, codes}
 use Rattle.jz_text.specs.Texts.{span_text}
 use Rattle.jz_meaning.specs.declared.value.Why.{Why}
 use Rattle.jz_meaning.specs.declared.value.Why.TheVariants as why
 use Rattle.jz_asked.specs.declared.alarms.Alarm.{Alarm}
 use Rattle.jz_asked.specs.declared.alarms.Target.{Target}
 use Rattle.jz_asked.specs.declared.alarms.Target.TheVariants as target
+use Rattle.jz_variable_text.specs.Variables.{variable_text}
 
 unfoldable pub kind_name : Why → List ℕ
 kind_name why.Bounds = codes "Bounds"
@@ -13,11 +14,6 @@ kind_name why.Address = codes "Address"
 kind_name why.Align = codes "Align"
 kind_name why.Init = codes "Init"
 kind_name why.Divide = codes "Divide"
-
--- `NAME`, or `NAME[CELL]`
-abbrev pub variable_text : List ℕ → Option ℕ → List ℕ
-variable_text name None = name
-variable_text name (Some k) = name ++ (codes "[" ++ (decimal k ++ codes "]"))
 
 abbrev pub target_text : Target → List ℕ
 target_text (target.Variable name cell) = variable_text name cell

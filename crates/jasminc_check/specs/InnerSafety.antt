@@ -1,26 +1,13 @@
 -- What is judged of the function at a place.
-use Rattle.std.specs.Prelude.{◌≡◌, ◌<◌, ◌++◌, ◌⊎◌, ℕ, true, false, All, List, length}
-use Rattle.std.specs.Prelude.{Option, Some, None, slice_get}
+use Rattle.std.specs.Prelude.{◌≡◌, ◌++◌, ◌⊎◌, ℕ, true, false, List}
+use Rattle.std.specs.Prelude.{Option, Some, slice_get}
 use Rattle.jz_tree.specs.declared.program.Fun.{Fun}
 use Rattle.jz_tree.specs.declared.program.Program.{Program}
 use Rattle.jz_type_rows.specs.Exports.{is_exported}
-use Rattle.jz_types.specs.TypedPrograms.{IsTypedProgram}
-use Rattle.jz_texts.specs.Texts.{IsText}
-use Rattle.jz_first_limit.specs.FirstLimits.{IsWithinLimits}
 use Rattle.jz_alarms.specs.Conditions as conditions
 use Rattle.jz_asked.specs.declared.alarms.Alarm.{Alarm}
 use Rattle.jz_asked.specs.Asked.{alarm_of}
-use Rattle.jasminc_source.specs.Exports.{WithinIfExported}
 use Rattle.jasminc_check.specs.Safety.{IsJudged, IsSafe, safe_line}
-
--- an export function of a text, within the limits
-pub record IsReadyAt (p : Program) (place : ℕ) : Type 0 where
-  pub typed : IsTypedProgram p
-  pub text : IsText p
-  pub function : Fun
-  pub there : slice_get p.funs place ≡ Some function
-  pub exported : is_exported function.kind ≡ true
-  pub within : IsWithinLimits p function
 
 pub record IsJudgedAt (p : Program) (place : ℕ) (count : ℕ) (w : Option conditions.Alarm) :
     Type 0 where
@@ -29,13 +16,6 @@ pub record IsJudgedAt (p : Program) (place : ℕ) (count : ℕ) (w : Option cond
   pub judged : IsJudged p function count w
 
 -- ---- each function of a program
-
--- one of the functions of a typed text whose export functions are within the limits
-pub record IsAmong (p : Program) (place : ℕ) : Type 0 where
-  pub typed : IsTypedProgram p
-  pub text : IsText p
-  pub within : All (WithinIfExported p) p.funs
-  pub below : place < length p.funs
 
 -- the line of the function at a place behind a text, if it is exported
 pub record AddsLine (p : Program) (place : ℕ) (old new : List ℕ) : Type 0 where

@@ -1,12 +1,12 @@
 //! The line of an alarm.
 
 ghost use Rattle.std.specs.Prelude.{◌≡◌, ◌++◌, OnOk};
-ghost use Rattle.jasminc_check.specs.AlarmLines.{kind_name, variable_text, target_text, alarm_line};
+ghost use Rattle.jasminc_check.specs.AlarmLines.{kind_name, target_text, alarm_line};
 
 use jz_asked::{Alarm, Target};
 use jz_meaning::Why;
-use jz_text::{write_number, write_span};
-use jz_tree::Text;
+use jz_text::write_span;
+use jz_variable_text::write_variable;
 use std::alloc::AllocError;
 
 #[tactic(auto, unfolding(crate::specs::AlarmLines::kind_name))]
@@ -19,21 +19,6 @@ fn kind_name(why: Why) -> &'static str
         Why::Align => "Align",
         Why::Init => "Init",
         Why::Divide => "Divide",
-    }
-}
-
-/// A variable, or the scalar that was a cell of a register array.
-fn write_variable(line: &mut Vec<u8>, name: &Text, cell: Option<u32>) -> Result<(), AllocError>
-    ensures { OnOk result (line.new.items ≡ line.old.items ++ variable_text name.now cell) }
-{
-    line.extend_from_slice(name.as_str().as_bytes())?;
-    match cell {
-        None => Ok(()),
-        Some(cell) => {
-            line.extend_from_slice(b"[")?;
-            write_number(line, u64::from(cell))?;
-            line.extend_from_slice(b"]")
-        }
     }
 }
 

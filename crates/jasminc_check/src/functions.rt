@@ -4,16 +4,15 @@ ghost use Rattle.std.specs.Prelude.{◌≡◌, ◌++◌, ℕ, All, None, Some, I
 ghost use Rattle.jz_tree.specs.Failures.{IfRefused};
 ghost use Rattle.jz_types.specs.TypedPrograms.{IsTypedProgram};
 ghost use Rattle.jz_texts.specs.Texts.{IsText};
-ghost use Rattle.jz_expansion.specs.Expanding.{IsExpandedAt};
 ghost use Rattle.jz_asked.specs.Asked.{alarm_of};
 ghost use Rattle.jasminc_source.specs.Exports.{WithinIfExported};
+ghost use Rattle.jasminc_expansions.specs.Ready.{IsReadyAt, IsAmong};
 ghost use Rattle.jasminc_check.specs.Safety.{AreSafe, HasAlarm, safe_line};
-ghost use Rattle.jasminc_check.specs.InnerSafety.{IsReadyAt, IsJudgedAt};
-ghost use Rattle.jasminc_check.specs.InnerSafety.{IsAmong, AddsLine, AlarmAt};
+ghost use Rattle.jasminc_check.specs.InnerSafety.{IsJudgedAt, AddsLine, AlarmAt};
 
+use jasminc_expansions::expanded_at;
 use jasminc_source::{function_at, is_exported};
 use jz_asked::Alarm;
-use jz_expansion::{Expanded, expand};
 use jz_first_alarm::first_alarm;
 use jz_io::Bytes;
 use jz_stated::stated;
@@ -21,18 +20,6 @@ use jz_text::write_number;
 use jz_tree::{Failure, Fun, Seq};
 use jz_types::Typed;
 use std::alloc::{AllocError, Global};
-
-/// The expansion of an export function within the limits.
-fn expanded_at(alloc: Global, typed: &Typed, place: usize) -> Result<Expanded, AllocError>
-    requires { IsReadyAt typed.now.program place }
-    ensures { IfOk result (IsExpandedAt typed.now.program place) }
-{
-    match expand(alloc, typed, place) {
-        Ok(expanded) => Ok(expanded),
-        Err(Failure::OutOfMemory) => Err(AllocError),
-        Err(Failure::Refused(_)) => unreachable!(),
-    }
-}
 
 /// How many statements a safe function has in expanded order, or its first alarm.
 fn judge_at(alloc: Global, typed: &Typed, place: usize) -> Result<usize, Failure<Alarm>>

@@ -4,10 +4,6 @@ use Rattle.std.specs.Prelude.{All, Err}
 use Rattle.jz_tree.specs.Failure.{Failure}
 use Rattle.jz_tree.specs.Failure.TheVariants as failure
 use Rattle.jz_tree.specs.Failures.{IfRefused, IfAnswered}
-use Rattle.jz_parse.specs.Reading.{Reads}
-use Rattle.jz_texts.specs.Texts.{IsText}
-use Rattle.jz_texts.proofs.Reading.{read_so}
-use Rattle.jz_texts.proofs.Resolved.{stays}
 use Rattle.jz_tree.specs.declared.program.Program.{Program}
 use Rattle.jasminc_source.specs.declared.limits.FunLimit.{FunLimit}
 use Rattle.jasminc_source.specs.declared.unread.Unread as source
@@ -23,12 +19,6 @@ use Rattle.jasminc_ct.specs.Judging.{AreConstant, HasBreach}
 use Rattle.jasminc_ct.specs.Causes.{PassesLimit, IsBreached, Clear, IsFirstCause}
 use Rattle.jasminc_ct.specs.Answers.{all_stages, IsDone, Answers}
 use Rattle.jasminc_ct.proofs.Judged.{constant_no_breach}
-
--- ---- a typed text is a program of a text
-
-pub text_text : (text : List ℕ) (p : Program) → TypesAs text p → IsText p
-unfolding Reads
-text_text text p t = subst IsText (sym t.is) (stays t.written (read_so text t.reads.0 t.written t.reads.1 t.reads.2))
 
 module _ (text : List ℕ) where
   before_reading : (u : source.Unread) → IsUnread text u → Clear text (unread_stage u)

@@ -1,31 +1,18 @@
 -- What is judged of the function at a place.
-use Rattle.std.specs.Prelude.{◌≡◌, ◌↔◌, ◌<◌, ◌++◌, ◌⊎◌, ℕ, true, false, All, List, length}
+use Rattle.std.specs.Prelude.{◌≡◌, ◌↔◌, ◌++◌, ◌⊎◌, ℕ, true, false, List}
 use Rattle.std.specs.Prelude.{Some, slice_get}
 use Rattle.jz_tree.specs.declared.program.Fun.{Fun}
 use Rattle.jz_tree.specs.declared.program.Program.{Program}
 use Rattle.jz_type_rows.specs.Exports.{is_exported}
-use Rattle.jz_types.specs.TypedPrograms.{IsTypedProgram}
-use Rattle.jz_texts.specs.Texts.{IsText}
-use Rattle.jz_first_limit.specs.FirstLimits.{IsWithinLimits}
 use Rattle.jz_change.specs.Changes.{Change}
 use Rattle.jz_expansion.specs.Expansions.{IsExpansion}
 use Rattle.jz_ct.specs.declared.judging.Ct.{Ct}
 use Rattle.jz_ct.specs.declared.judging.Ct.TheVariants as told
 use Rattle.jz_ct.specs.Told.{told_by, breach_of, IsConstantTime, HasFirstBreach}
-use Rattle.jasminc_source.specs.Exports.{WithinIfExported}
 use Rattle.jasminc_ct.specs.declared.breaches.FunBreach.{FunBreach}
 use Rattle.jasminc_ct.specs.Judging.{IsConstant, IsJudged, yes_line}
 
--- an export function of a text, within the limits
-pub record IsReadyAt (p : Program) (place : ℕ) : Type 0 where
-  pub typed : IsTypedProgram p
-  pub text : IsText p
-  pub function : Fun
-  pub there : slice_get p.funs place ≡ Some function
-  pub exported : is_exported function.kind ≡ true
-  pub within : IsWithinLimits p function
-
--- what is told of an expansion of it
+-- what is told of an expansion of the function at that place
 pub record IsJudgedAt (p : Program) (place : ℕ) (ct : Ct) : Type 0 where
   pub function : Fun
   pub there : slice_get p.funs place ≡ Some function
@@ -37,13 +24,6 @@ pub record IsJudgedAt (p : Program) (place : ℕ) (ct : Ct) : Type 0 where
   pub first : HasFirstBreach expanded (told_by ct)
 
 -- ---- each function of a program
-
--- one of the functions of a typed text whose export functions are within the limits
-pub record IsAmong (p : Program) (place : ℕ) : Type 0 where
-  pub typed : IsTypedProgram p
-  pub text : IsText p
-  pub within : All (WithinIfExported p) p.funs
-  pub below : place < length p.funs
 
 -- the line of the function at a place behind a text, if it is exported
 pub record AddsLine (p : Program) (place : ℕ) (old new : List ℕ) : Type 0 where

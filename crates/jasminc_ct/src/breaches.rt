@@ -1,11 +1,12 @@
 //! The line of a breach.
 
 ghost use Rattle.std.specs.Prelude.{◌≡◌, ◌++◌, OnOk};
-ghost use Rattle.jasminc_ct.specs.BreachLines.{kind_name, variable_text, secret_text, breach_line};
+ghost use Rattle.jasminc_ct.specs.BreachLines.{kind_name, secret_text, breach_line};
 
 use jz_ct::{Breach, Reason, Secret};
-use jz_text::{write_number, write_span};
+use jz_text::write_span;
 use jz_tree::Text;
+use jz_variable_text::write_variable;
 use std::alloc::AllocError;
 
 /// An export function, and its first breach.
@@ -23,21 +24,6 @@ fn kind_name(why: Reason) -> &'static str
         Reason::Branch => "Branch",
         Reason::Address => "Address",
         Reason::Divide => "Divide",
-    }
-}
-
-/// A variable, or the scalar that was a cell of a register array.
-fn write_variable(line: &mut Vec<u8>, name: &Text, cell: Option<u32>) -> Result<(), AllocError>
-    ensures { OnOk result (line.new.items ≡ line.old.items ++ variable_text name.now cell) }
-{
-    line.extend_from_slice(name.as_str().as_bytes())?;
-    match cell {
-        None => Ok(()),
-        Some(cell) => {
-            line.extend_from_slice(b"[")?;
-            write_number(line, u64::from(cell))?;
-            line.extend_from_slice(b"]")
-        }
     }
 }
 

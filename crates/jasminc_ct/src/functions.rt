@@ -4,33 +4,20 @@ ghost use Rattle.std.specs.Prelude.{◌≡◌, ◌++◌, All, IfOk, IfErr, OnOk}
 ghost use Rattle.jz_tree.specs.Failures.{IfRefused};
 ghost use Rattle.jz_types.specs.TypedPrograms.{IsTypedProgram};
 ghost use Rattle.jz_texts.specs.Texts.{IsText};
-ghost use Rattle.jz_expansion.specs.Expanding.{IsExpandedAt};
 ghost use Rattle.jz_ct.specs.declared.judging.Ct.TheVariants as told;
 ghost use Rattle.jasminc_source.specs.Exports.{WithinIfExported};
+ghost use Rattle.jasminc_expansions.specs.Ready.{IsReadyAt, IsAmong};
 ghost use Rattle.jasminc_ct.specs.Judging.{AreConstant, HasBreach, yes_line};
-ghost use Rattle.jasminc_ct.specs.InnerJudging.{IsReadyAt, IsJudgedAt};
-ghost use Rattle.jasminc_ct.specs.InnerJudging.{IsAmong, AddsLine, BreachAt};
+ghost use Rattle.jasminc_ct.specs.InnerJudging.{IsJudgedAt, AddsLine, BreachAt};
 
 use crate::breaches::FunBreach;
+use jasminc_expansions::expanded_at;
 use jasminc_source::{function_at, is_exported};
 use jz_ct::{Ct, judge};
-use jz_expansion::{Expanded, expand};
 use jz_io::Bytes;
 use jz_tree::{Failure, Fun, Seq};
 use jz_types::Typed;
 use std::alloc::{AllocError, Global};
-
-/// The expansion of an export function within the limits.
-fn expanded_at(alloc: Global, typed: &Typed, place: usize) -> Result<Expanded, AllocError>
-    requires { IsReadyAt typed.now.program place }
-    ensures { IfOk result (IsExpandedAt typed.now.program place) }
-{
-    match expand(alloc, typed, place) {
-        Ok(expanded) => Ok(expanded),
-        Err(Failure::OutOfMemory) => Err(AllocError),
-        Err(Failure::Refused(_)) => unreachable!(),
-    }
-}
 
 /// Whether it is constant time, or its first breach.
 fn judge_at(alloc: Global, typed: &Typed, place: usize) -> Result<Ct, AllocError>

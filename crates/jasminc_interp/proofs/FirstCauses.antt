@@ -16,22 +16,23 @@ use Rattle.jasminc_interp.specs.declared.telling.Ran.{Ran}
 use Rattle.jasminc_source.specs.Texts.{TypesAs}
 use Rattle.jasminc_source.specs.Unreadable.{IsUnread, unread_stage}
 use Rattle.jasminc_source.specs.Exports.{export_named, WithinIfExported, HasLimit}
-use Rattle.jasminc_interp.specs.Runs.{AllHold, BreaksFirst, RunsOn}
+use Rattle.jasminc_calls.specs.Calls.{AllHold, BreaksFirst}
+use Rattle.jasminc_interp.specs.Runs.{RunsOn}
 use Rattle.jasminc_interp.specs.InnerRuns.{IsRunAt, FunctionAnswers}
 use Rattle.jasminc_interp.specs.Causes.{HasNoExport, PassesLimit, HasOtherItems, BreaksPrecondition, Cause, stage_of, Clear, IsFirstCause}
 use Rattle.jasminc_interp.specs.Answers.{all_stages, Answers, IsDone}
 use Rattle.jasminc_source.proofs.Causing.{types_as_read, first_unread, unread_early, types_one}
 use Rattle.jasminc_source.proofs.Limiting.{none_passes}
 use Rattle.jasminc_interp.proofs.Told.{same_fun}
-use Rattle.jasminc_interp.proofs.Readying.{none_breaks}
+use Rattle.jasminc_calls.proofs.Suiting.{none_breaks}
 
 -- ---- what excludes the causes before a stage
 pub record Excludes (text fun : List ℕ) (items : List Item) (n : ℕ) : Type 0 where
   pub reading : (u : source.Unread) → unread_stage u < n → IsUnread text u → ⊥
   pub named : (name : List ℕ) → 5 < n → HasNoExport text fun name → ⊥
   pub limits : (l : FunLimit) → 6 < n → PassesLimit text l → ⊥
-  pub counted : 9 < n → HasOtherItems text fun items → ⊥
-  pub met : (pre : Pre) → 10 < n → BreaksPrecondition text fun items pre → ⊥
+  pub counted : 11 < n → HasOtherItems text fun items → ⊥
+  pub met : (pre : Pre) → 12 < n → BreaksPrecondition text fun items pre → ⊥
 
 cleared : (text fun : List ℕ) (items : List Item) (n : ℕ) → Excludes text fun items n → Clear text fun items n
 cleared text fun items n e (Unread u) lt c = e.reading u lt c
@@ -75,10 +76,24 @@ module _ (text fun : List ℕ) (items : List Item) where
 
     -- ---- with the function
     module _ (f : Fun) (found : export_named fun p.funs ≡ Some f) where
-      has_function : (name : List ℕ) → HasNoExport text fun name → ⊥
+      pub has_function : (name : List ℕ) → HasNoExport text fun name → ⊥
       has_function name h =
           let same = types_one text p h.program t h.types in
           let none : export_named fun p.funs ≡ None = ap (λ (q : Program). export_named fun q.funs) same ∙ h.none in cc
+
+      pub has_items : length items ≡ length f.params → HasOtherItems text fun items → ⊥
+      has_items many h =
+          let same = types_one text p h.program t h.types in
+          let both : export_named fun p.funs ≡ Some h.function = ap (λ (q : Program). export_named fun q.funs) same ∙ h.found in
+          let one = same_fun f h.function (export_named fun p.funs) found both in
+          h.differ (many ∙ ap (λ (g : Fun). length g.params) one)
+
+      pub all_met : AllHold f items → (pre : Pre) → BreaksPrecondition text fun items pre → ⊥
+      all_met held pre h =
+          let same = types_one text p h.program t h.types in
+          let both : export_named fun p.funs ≡ Some h.function = ap (λ (q : Program). export_named fun q.funs) same ∙ h.found in
+          let one = same_fun f h.function (export_named fun p.funs) found both in
+          none_breaks h.function items pre (subst (λ (g : Fun). AllHold g items) one held) h.breaks
 
       before_limits : Excludes text fun items 6
       before_limits = record {
@@ -97,7 +112,7 @@ module _ (text fun : List ℕ) (items : List Item) where
         no_limit : (l : FunLimit) → PassesLimit text l → ⊥
         no_limit l h = none_passes p l within (subst (λ (q : Program). HasLimit q l) (types_one text h.program p h.types t) h.limit)
 
-        before_items : Excludes text fun items 9
+        before_items : Excludes text fun items 11
         before_items = record {
           reading = λ u lt c. types_as_read text p t u c;
           named = λ name lt c. has_function name c;
@@ -110,14 +125,7 @@ module _ (text fun : List ℕ) (items : List Item) where
         items_first differ =
             first_with text fun items Items (record { program = p; types = t; function = f; found = found; differ = differ }) before_items
 
-        has_items : length items ≡ length f.params → HasOtherItems text fun items → ⊥
-        has_items many h =
-            let same = types_one text p h.program t h.types in
-            let both : export_named fun p.funs ≡ Some h.function = ap (λ (q : Program). export_named fun q.funs) same ∙ h.found in
-            let one = same_fun f h.function (export_named fun p.funs) found both in
-            h.differ (many ∙ ap (λ (g : Fun). length g.params) one)
-
-        before_met : length items ≡ length f.params → Excludes text fun items 10
+        before_met : length items ≡ length f.params → Excludes text fun items 12
         before_met many = record {
           reading = λ u lt c. types_as_read text p t u c;
           named = λ name lt c. has_function name c;
@@ -129,13 +137,6 @@ module _ (text fun : List ℕ) (items : List Item) where
         unmet_first : (pre : Pre) → length items ≡ length f.params → BreaksFirst f items pre → IsFirstCause text fun items (Unmet pre)
         unmet_first pre many breaks =
             first_with text fun items (Unmet pre) (record { program = p; types = t; function = f; found = found; many = many; breaks = breaks }) (before_met many)
-
-        all_met : AllHold f items → (pre : Pre) → BreaksPrecondition text fun items pre → ⊥
-        all_met held pre h =
-            let same = types_one text p h.program t h.types in
-            let both : export_named fun p.funs ≡ Some h.function = ap (λ (q : Program). export_named fun q.funs) same ∙ h.found in
-            let one = same_fun f h.function (export_named fun p.funs) found both in
-            none_breaks h.function items pre (subst (λ (g : Fun). AllHold g items) one held) h.breaks
 
         before_all : length items ≡ length f.params → AllHold f items → Excludes text fun items all_stages
         before_all many held = record {

@@ -1,5 +1,3 @@
-pub mod InStep
-pub mod Parameters
 pub mod Told
 pub mod Readying
 pub mod FirstCauses

@@ -1,5 +1,5 @@
 -- What is told of outcomes.
-use Rattle.std.proofs.Common.{◌≡◌, ℕ, List, [], ◌∷◌, map, refl, ◌∙◌, ap, ap₂, sym, Option, Some, subst}
+use Rattle.std.proofs.Common.{◌≡◌, ℕ, List, ◌∙◌, ap, ap₂, sym, Option, Some, subst}
 use Rattle.std.specs.Prelude.{slice_get}
 use Rattle.std.specs.FinMap.{get}
 use Rattle.jz_tree.specs.Word as code_word
@@ -22,7 +22,7 @@ use Rattle.jz_items.specs.declared.item.Item.{Item}
 use Rattle.jz_items.specs.Items.{words_of}
 use Rattle.jz_preconditions.specs.Meeting.{MeetsPreconditions}
 use Rattle.jz_inputs.specs.Held.{byte_at}
-use Rattle.jasminc_interp.specs.Runs.{argument_values, argument_words, bits_of}
+use Rattle.jasminc_calls.specs.Calls.{argument_values, argument_words}
 use Rattle.jasminc_interp.specs.InnerRuns.{RunsAt}
 
 module _ (f : Fun) (args : List ℕ) (n : ℕ) (o : Outcome) (text : List ℕ) where
@@ -51,11 +51,6 @@ module _ (f : Fun) (args : List ℕ) (n : ℕ) (o : Outcome) (text : List ℕ) w
 
   pub told_stuck : (stuck : code.Stuck) → o ≡ outcome.Stuck stuck → text ≡ stuck_line stuck → (out : FunOutcome) → Shows out o → Tells f args n out (ran.Stuck text)
   told_stuck stuck e is out h = stuck_of stuck is out (subst (Shows out) e h)
-
--- ---- the bits of words
-pub bits_are : (ws : List code_word.Word) → map (λ w. w.bits) ws ≡ map bits_of (values_of ws)
-bits_are [] = refl
-bits_are (w ∷ ws) = ap (λ bs. w.bits ∷ bs) (bits_are ws)
 
 -- ---- the run at a place
 pub same_fun : (f g : Fun) (o : Option Fun) → o ≡ Some f → o ≡ Some g → f ≡ g

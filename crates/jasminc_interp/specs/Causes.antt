@@ -10,7 +10,7 @@ use Rattle.jasminc_interp.specs.declared.refused.Refused.TheVariants.{Unread}
 use Rattle.jasminc_interp.specs.declared.refused.Refused.TheVariants.{NoFunction, Limit, Items, Unmet}
 use Rattle.jasminc_source.specs.Texts.{TypesAs}
 use Rattle.jasminc_source.specs.Unreadable.{IsUnread, unread_stage}
-use Rattle.jasminc_interp.specs.Runs.{BreaksFirst}
+use Rattle.jasminc_calls.specs.Calls.{BreaksFirst}
 use Rattle.jasminc_source.specs.Exports.{export_named, HasLimit}
 
 -- no export function of the text's program has the name
@@ -56,8 +56,8 @@ abbrev pub stage_of : Refused → ℕ
 stage_of (Unread u) = unread_stage u
 stage_of (NoFunction name) = 5
 stage_of (Limit l) = 6
-stage_of Items = 9
-stage_of (Unmet pre) = 10
+stage_of Items = 11
+stage_of (Unmet pre) = 12
 
 -- no stage before this one has a cause
 abbrev pub Clear : List ℕ → List ℕ → List Item → ℕ → Type 0

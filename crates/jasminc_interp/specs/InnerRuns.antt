@@ -5,15 +5,14 @@ use Rattle.jz_tree.specs.declared.program.Program.{Program}
 use Rattle.jz_type_rows.specs.Exports.{is_exported}
 use Rattle.jz_types.specs.TypedPrograms.{IsTypedProgram}
 use Rattle.jz_annotations.specs.declared.precondition.Pre.{Pre}
-use Rattle.jz_preconditions.specs.Stating.{preconditions_of}
 use Rattle.jz_items.specs.declared.item.Item.{Item}
-use Rattle.jz_items.specs.Items.{words_of}
-use Rattle.jz_interp.specs.Outcomes.{values_of}
-use Rattle.jasminc_interp.specs.declared.calls.Called.{Called}
+use Rattle.jasminc_calls.specs.declared.calls.Called.{Called}
+use Rattle.jasminc_calls.specs.Calls.{AllHold, BreaksFirst}
+use Rattle.jasminc_calls.specs.Fitting.{Suits}
 use Rattle.jasminc_interp.specs.declared.refused.Refused.{Refused}
 use Rattle.jasminc_interp.specs.declared.refused.Refused.TheVariants.{Unmet, Items}
 use Rattle.jasminc_interp.specs.declared.telling.Ran.{Ran}
-use Rattle.jasminc_interp.specs.Runs.{argument_values, argument_words, AllHold, BreaksFirst, RunsOn}
+use Rattle.jasminc_interp.specs.Runs.{RunsOn}
 
 -- the program is typed, and there is an export function at that place
 pub record IsExportAt (p : Program) (place : ℕ) : Type 0 where
@@ -22,18 +21,11 @@ pub record IsExportAt (p : Program) (place : ℕ) : Type 0 where
   pub there : slice_get p.funs place ≡ Some function
   pub exported : is_exported function.kind ≡ true
 
--- what a function is run on, by items
-pub record IsCalled (f : Fun) (items : List Item) (c : Called) : Type 0 where
-  pub words : values_of c.words ≡ argument_values f.params (words_of items)
-  pub bits : c.bits ≡ argument_words f items
-  pub pres : c.pres ≡ preconditions_of f
-
--- there are as many items as parameters, and the preconditions hold of them
+-- there are as many items as parameters, the preconditions hold of them, and the function is run on
+-- this
 pub record IsReady (p : Program) (place : ℕ) (items : List Item) (c : Called) : Type 0 where
   pub at : IsExportAt p place
-  pub many : length items ≡ length at.function.params
-  pub called : IsCalled at.function items c
-  pub held : AllHold at.function items
+  pub suits : Suits at.function items c
 
 -- the run of the function at that place
 pub record RunsAt (p : Program) (place : ℕ) (items : List Item) (fuel : ℕ) (ran : Ran) : Type 0 where

@@ -12,13 +12,8 @@ use Rattle.jz_meaning.specs.Runs.{FunOutcome}
 use Rattle.jz_meaning.specs.declared.value.Why.{Why}
 use Rattle.jz_meaning.specs.declared.value.Why.TheVariants as why
 use Rattle.jz_meaning.specs.declared.value.Stuck as code
-use Rattle.jz_annotations.specs.declared.precondition.Pre.{Pre}
-use Rattle.jz_annotations.specs.declared.precondition.Pre.TheVariants as pre
-use Rattle.jz_preconditions.specs.Stating.{preconditions_of}
-use Rattle.jz_preconditions.specs.Meeting.{names_of, region_of}
-use Rattle.jz_inputs.specs.Inputs.{bytes_in}
 use Rattle.jasminc_lines.specs.Lines.{result_text, cut_line}
-use Rattle.jasminc_lines.specs.Preconditions.{region_line}
+use Rattle.jasminc_regions.specs.Regions.{regions_text}
 use Rattle.jasminc_interp.specs.declared.telling.Ran.{Ran}
 use Rattle.jasminc_interp.specs.declared.telling.Ran.TheVariants as ran
 
@@ -41,21 +36,6 @@ value_text x v = []
 
 abbrev pub results_text : List Var → List Value → List ℕ
 results_text xs vs = concat (map (λ p. value_text p.0 p.1) (zip xs vs))
-
--- the parameter that a precondition names first
-abbrev pub pointer_of : Pre → List ℕ
-pointer_of (pre.Region p factor v constant) = p
-pointer_of (pre.Range x low high) = x
-pointer_of (pre.Align p multiple) = p
-
--- the region that a precondition declares for argument words, with its bytes
-abbrev pub region_text : Fun → List ℕ → Memory → Pre → List ℕ
-region_text f words m p =
-    concat (map (λ r. region_line (pointer_of p) (bytes_in m r)) (region_of (names_of f) words p))
-
--- all regions of a function, in the order of its text
-abbrev pub regions_text : Fun → List ℕ → Memory → List ℕ
-regions_text f words m = concat (map (region_text f words m) (preconditions_of f))
 
 -- that it ended, its results, and its regions at the end
 abbrev pub end_text : Fun → List ℕ → List Value → Memory → List ℕ

@@ -2,7 +2,6 @@
 //! or to the first reason why there is none.
 #![tactic(auto)]
 
-mod calls;
 mod laws;
 mod refused;
 mod running;

@@ -1,19 +1,31 @@
 //! The run of an export function on items.
 
-ghost use Rattle.std.specs.Prelude.{◌<◌, IfOk, length};
+ghost use Rattle.std.specs.Prelude.{◌≡◌, ◌<◌, IfOk, length};
 ghost use Rattle.jz_tree.specs.Failures.{IfAnswered};
+ghost use Rattle.jasminc_interp.specs.Runs.{refusal_of};
 ghost use Rattle.jasminc_interp.specs.InnerRuns.{IsExportAt, IsReady, RunsAt, FunctionAnswers};
 
-use crate::calls::{Called, prepared, taken};
 use crate::refused::Refused;
 use crate::telling::{Ran, tell};
+use jasminc_calls::{Called, Unfit, called_on};
 use jasminc_source::function_at;
-use jz_inputs::{first_unmet, memory_of};
+use jz_inputs::memory_of;
 use jz_interp::{Input, interpret};
 use jz_items::Item;
 use jz_tree::{Failure, Seq};
 use jz_types::Typed;
 use std::alloc::{AllocError, Global};
+
+/// Items on which a function is not run, as a refusal.
+fn refusal_of(failure: Failure<Unfit>) -> Failure<Refused>
+    ensures { result ≡ refusal_of failure }
+{
+    match failure {
+        Failure::Refused(Unfit::Items) => Failure::Refused(Refused::Items),
+        Failure::Refused(Unfit::Unmet(pre)) => Failure::Refused(Refused::Unmet(pre)),
+        Failure::OutOfMemory => Failure::OutOfMemory,
+    }
+}
 
 /// The run of the function at that place, with at most so many turns, in a memory of exactly the
 /// bytes of its regions.
@@ -53,15 +65,11 @@ pub fn run_function(
 {
     let tree = typed.program();
     let function = function_at(&tree.funs, place);
-    if items.len() != function.params.len() {
-        return Err(Failure::Refused(Refused::Items));
-    }
-    let called = prepared(alloc, function, items)?;
-    match first_unmet(function, &called.bits, items, &called.pres) {
-        Some(at) => Err(Failure::Refused(Refused::Unmet(taken(called.pres, at)))),
-        None => {
+    match called_on(alloc, function, items) {
+        Ok(called) => {
             let ran = run(alloc, typed, place, items, called, fuel)?;
             Ok(ran)
         }
+        Err(failure) => Err(refusal_of(failure)),
     }
 }

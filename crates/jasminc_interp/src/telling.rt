@@ -1,18 +1,17 @@
 //! The text of a run of the source.
 
-ghost use Rattle.std.specs.Prelude.{◌≡◌, ◌++◌, IfOk, OnOk, All, map};
-ghost use Rattle.std.specs.List.{concat};
+ghost use Rattle.std.specs.Prelude.{◌≡◌, ◌++◌, IfOk, OnOk, All};
 ghost use Rattle.jz_preconditions.specs.Stating.{preconditions_of};
-ghost use Rattle.jz_preconditions.specs.Meeting.{IsBelowEnd, names_of, region_of, regions_of};
+ghost use Rattle.jz_preconditions.specs.Meeting.{IsBelowEnd};
 ghost use Rattle.jz_preconditions.specs.Meeting.{regions_for};
 ghost use Rattle.jz_meaning.specs.Runs.{FunOutcome};
 ghost use Rattle.jz_interp.specs.Outcomes.{values_of, Shows};
 ghost use Rattle.jasminc_lines.specs.Lines.{cut_line};
 ghost use Rattle.jasminc_interp.specs.Telling.{why_name, stuck_line, results_text, end_text};
-ghost use Rattle.jasminc_interp.specs.Telling.{pointer_of, region_text, Tells};
+ghost use Rattle.jasminc_interp.specs.Telling.{Tells};
 
-use jasminc_lines::{write_cut, write_region, write_result};
-use jz_inputs::{bytes_in, region_of};
+use jasminc_lines::{write_cut, write_result};
+use jasminc_regions::write_regions;
 use jz_interp::Outcome;
 use jz_io::Bytes;
 use jz_leak::MemMap;
@@ -74,57 +73,6 @@ fn write_results(
                 write_result(alloc, text, var.name.as_str(), word.size(), word.bits())?;
             }
         }
-    }
-    Ok(())
-}
-
-/// The parameter that a precondition names first.
-fn pointer_of(pre: &Pre) -> &str
-    ensures { result.now ≡ pointer_of pre.now }
-{
-    match pre {
-        Pre::Region { pointer, .. } => pointer.as_str(),
-        Pre::Range { name, .. } => name.as_str(),
-        Pre::Align { pointer, .. } => pointer.as_str(),
-    }
-}
-
-/// The region that a precondition declares for argument words, where it is one.
-fn write_region_of(
-    alloc: Global,
-    text: &mut Vec<u8>,
-    function: &Fun,
-    words: &Seq<u64>,
-    memory: &MemMap,
-    pre: &Pre,
-) -> Result<(), AllocError>
-    requires { All IsBelowEnd (region_of (names_of function.now) words.now pre.now) }
-    ensures { OnOk result (text.new.items
-        ≡ text.old.items ++ region_text function.now words.now memory.now pre.now) }
-{
-    match region_of(function, words, pre) {
-        None => Ok(()),
-        Some(region) => {
-            let bytes = bytes_in(alloc, memory, region)?;
-            write_region(alloc, text, pointer_of(pre), &bytes)
-        }
-    }
-}
-
-fn write_regions(
-    alloc: Global,
-    text: &mut Vec<u8>,
-    function: &Fun,
-    words: &Seq<u64>,
-    memory: &MemMap,
-    pres: &Seq<Pre>,
-) -> Result<(), AllocError>
-    requires { All IsBelowEnd (regions_of (names_of function.now) pres.now words.now) }
-    ensures { OnOk result (text.new.items ≡ text.old.items
-        ++ concat (map (region_text function.now words.now memory.now) pres.now)) }
-{
-    for pre in pres.as_slice() {
-        write_region_of(alloc, text, function, words, memory, pre)?;
     }
     Ok(())
 }

@@ -8,9 +8,9 @@ use Rattle.jz_preconditions.specs.Bounds.{first_of}
 use Rattle.jz_items.specs.declared.item.Placed.{Placed}
 use Rattle.jz_items.specs.declared.item.Item.{Item}
 use Rattle.jz_items.specs.declared.item.Item.TheVariants.{Number, Bytes}
-use Rattle.jz_items.specs.Items.{do_meet, is_reserved, is_free, meets_item, item_of, items_behind}
+use Rattle.jz_items.specs.Items.{do_meet, is_reserved, is_free, meets_item, item_of, items_behind, AreItems}
 use Rattle.jz_inputs.specs.Held.{byte_in, byte_at}
-use Rattle.jasminc_starts.specs.Memories.{lowest_stack, stack_end, StandApart, AreItems}
+use Rattle.jasminc_starts.specs.Memories.{lowest_stack, stack_end, StandApart}
 use Rattle.jasminc_starts.proofs.Memories.{past_end}
 
 -- ---- what stands apart

@@ -15,7 +15,7 @@ use Rattle.jz_meaning.specs.States.{Value, word}
 use Rattle.jz_meaning.specs.Values.{ref_of}
 use Rattle.jz_compiled.specs.Lines.{AreArgumentLines}
 use Rattle.jz_compiled.specs.Matching.{values_of}
-use Rattle.jasminc_interp.specs.Runs.{argument, argument_values, argument_words, bits_of}
+use Rattle.jasminc_calls.specs.Calls.{argument, argument_values, argument_words, bits_of}
 use Rattle.jasminc_starts.specs.Starting.{AreLowBits}
 
 -- the argument words are the low bits of the items' words, by the lines of the listing

@@ -14,7 +14,7 @@ use Rattle.jz_leak.specs.MemoryMap.{byte_from, AddsBytes}
 use Rattle.jz_preconditions.specs.Stating.{preconditions_of}
 use Rattle.jz_items.specs.declared.item.Item.{Item}
 use Rattle.jz_inputs.specs.Inputs.{HoldsRegions}
-use Rattle.jasminc_exec.specs.Running.{return_slot}
+use Rattle.jasminc_steps.specs.Starting.{return_slot}
 use Rattle.jasminc_starts.specs.Memories.{most_frame, IsStartMemory}
 use Rattle.jasminc_starts.proofs.Memories.{past_end, zeros_long}
 

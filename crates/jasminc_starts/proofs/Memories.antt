@@ -12,7 +12,7 @@ use Rattle.jz_preconditions.specs.Meeting.{IsValid}
 use Rattle.jz_items.specs.declared.item.Item.{Item}
 use Rattle.jz_inputs.specs.Held.{byte_at}
 use Rattle.jz_inputs.specs.Inputs.{HoldsRegions}
-use Rattle.jasminc_exec.specs.Running.{return_slot}
+use Rattle.jasminc_steps.specs.Starting.{return_slot}
 use Rattle.jasminc_starts.specs.Memories.{lowest_stack, stack_end, StandApart, most_frame, IsStartMemory}
 
 -- ---- bytes of 0

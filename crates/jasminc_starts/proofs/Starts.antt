@@ -34,8 +34,8 @@ use Rattle.jz_compiled.proofs.Printed.{in_declared}
 use Rattle.jz_correct.specs.Agreement.{NeverFaults}
 use Rattle.x64_machine.specs.Steps.{Config}
 use Rattle.jasminc_starts.specs.Starting.{IsSafe}
-use Rattle.jasminc_exec.specs.Running.{code_base, return_slot, with_numbers, bare_registers, start_state, exec_start}
-use Rattle.jasminc_exec.proofs.ExecStart.{is_far, AreWords, placed-other, placed-length, placed-words, bare_words}
+use Rattle.jasminc_steps.specs.Starting.{code_base, return_slot, with_numbers, bare_registers, start_state, exec_start}
+use Rattle.jasminc_steps.proofs.Placing.{is_far, AreWords, placed-other, placed-length, placed-words, bare_words}
 use Rattle.jasminc_starts.specs.Memories.{most_frame, StandApart, IsStartMemory}
 use Rattle.jasminc_starts.specs.Starting.{AreLowBits}
 use Rattle.jasminc_starts.proofs.Memories.{input_stays, stack_zero, start_bytes, valid_apart}

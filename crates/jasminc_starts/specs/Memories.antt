@@ -1,19 +1,13 @@
 -- The memory where `exec` starts a compiled function of the whole language.
-use Rattle.std.specs.Prelude.{◌≡◌, ◌<◌, ◌≤◌, ℕ, ◌+◌, ◌-◌, List, Some, None, replicate}
+use Rattle.std.specs.Prelude.{◌≡◌, ◌<◌, ◌≤◌, ℕ, ◌+◌, ◌-◌, List, None, replicate}
 use Rattle.jz_words.specs.Memory.{Memory}
 use Rattle.jz_tree.specs.declared.program.Fun.{Fun}
 use Rattle.jz_leak.specs.MemoryMap.{AddsBytes}
 use Rattle.jz_preconditions.specs.Stating.{preconditions_of}
 use Rattle.jz_items.specs.declared.item.Item.{Item}
-use Rattle.jz_items.specs.Items.{items_of}
 use Rattle.jz_inputs.specs.Held.{byte_at}
 use Rattle.jz_inputs.specs.Inputs.{HoldsRegions}
-use Rattle.jasminc_exec.specs.Running.{return_slot}
-
--- ---- items
--- the items that some words of a command line are
-abbrev pub AreItems : List Item → Type 0
-AreItems items = (words : List (List ℕ)) × (items_of words ≡ Some items)
+use Rattle.jasminc_steps.specs.Starting.{return_slot}
 
 -- ---- the stack
 -- no byte of items stands where a stack may stand: from the lowest address of a stack up to here

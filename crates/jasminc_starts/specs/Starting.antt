@@ -9,7 +9,7 @@ use Rattle.jz_items.specs.Items.{words_of}
 use Rattle.jz_listing.specs.declared.compiled.Arg.{Arg}
 use Rattle.jz_listing.specs.declared.compiled.Compiled.{Compiled}
 use Rattle.jz_correct.specs.Agreement.{NeverFaults}
-use Rattle.jasminc_exec.specs.Running.{code_base, exec_start}
+use Rattle.jasminc_steps.specs.Starting.{code_base, exec_start}
 use Rattle.jasminc_starts.specs.Memories.{IsStartMemory}
 
 -- ---- arguments

@@ -103,8 +103,8 @@ static ROWS: [Row; 14] = [
     Row {
         words: COMPILE,
         text: b"export fn f(reg u64 x) -> reg u64 { reg u64 r; r, r = x; return r; }",
-        status: Status::Syntax,
-        written: "syntax Unexpected 1:49 token 17\n",
+        status: Status::Typing,
+        written: "type 2 Duplicate 1:51\n",
         made: 0,
     },
     // t has no need, and leaves RAX to r, which is declared after it.

@@ -276,7 +276,7 @@ static COMPILED: [(&[u8], &str); 4] = [
     ),
     (
         MIX,
-        "fn mix\n00000000 4889f8 mov.64 rax, rdi\n00000003 4801f0 add.64 rax, rsi\n00000006 48be157c4a7fb979379e mov.64 rsi, -7046029254386353131\n00000010 4831f0 xor.64 rax, rsi\n00000013 4829ca sub.64 rdx, rcx\n00000016 4801d0 add.64 rax, rdx\n00000019 4881f095e9d15b xor.64 rax, 1540483477\n00000020 c3 ret\n",
+        "fn mix\n00000000 4883ec08 sub.64 rsp, 8\n00000004 48891c24 mov.64 [rsp], rbx\n00000008 4889f8 mov.64 rax, rdi\n0000000b 4801f0 add.64 rax, rsi\n0000000e 48bb157c4a7fb979379e mov.64 rbx, -7046029254386353131\n00000018 4831d8 xor.64 rax, rbx\n0000001b 4829ca sub.64 rdx, rcx\n0000001e 4801d0 add.64 rax, rdx\n00000021 4881f095e9d15b xor.64 rax, 1540483477\n00000028 488b1c24 mov.64 rbx, [rsp]\n0000002c 4883c408 add.64 rsp, 8\n00000030 c3 ret\n",
     ),
     (
         SUM_AND_DIFFERENCE,

@@ -35,14 +35,14 @@ static ROWS: [Row; 27] = [
         words: COMPILE,
         text: MIX,
         status: Status::Ok,
-        written: "jasmin-listing 1\nfn mix\narg a u64 rdi\narg b u64 rsi\narg c u64 rdx\narg d u64 rcx\nret r u64 rax\nframe 0\nsaved -\ninsns 8\ncode 4889f84801f048be157c4a7fb979379e4831f04829ca4801d04881f095e9d15bc3\ntr [] {op[] op[] op[] op[] op[] op[] op[]} [a:@0]\nct yes\nend\n",
+        written: "jasmin-listing 1\nfn mix\narg a u64 rdi\narg b u64 rsi\narg c u64 rdx\narg d u64 rcx\nret r u64 rax\nframe 8\nsaved rbx\ninsns 12\ncode 4883ec0848891c244889f84801f048bb157c4a7fb979379e4831d84829ca4801d04881f095e9d15b488b1c244883c408c3\ntr [a:@-8] {op[] op[] op[] op[] op[] op[] op[]} [a:@-8 a:@0]\nct yes\nend\n",
         made: 1,
     },
     Row {
         words: &["jasminc", "exec", "add.jazz", "mix", "1", "2", "3", "4"],
         text: MIX,
         status: Status::Ok,
-        written: "addr 0x00007fffffff0008\nend 8\nresult r 0x9e3779b9249b9580\n",
+        written: "addr 0x00007fffffff0000\naddr 0x00007fffffff0000\naddr 0x00007fffffff0008\nend 12\nresult r 0x9e3779b9249b9580\n",
         made: 1,
     },
     Row {

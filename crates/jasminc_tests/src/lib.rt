@@ -1,11 +1,15 @@
-//! Tests of the call over all stages, and of the stages of the first language, by texts. They stand
-//! apart from what they test, since a crate with tests is proved twice.
+//! Tests of the call over all stages, and of the stages, by texts. They stand apart from what they
+//! test, since a crate with tests is proved twice.
 #![tactic(auto)]
 
+#[cfg(test)]
+mod agreement_tests;
 #[cfg(test)]
 mod back_tests;
 #[cfg(test)]
 mod call_tests;
+#[cfg(test)]
+mod compile_tests;
 #[cfg(test)]
 mod disasm_tests;
 #[cfg(test)]
@@ -26,6 +30,10 @@ mod placing_tests;
 mod question_tests;
 #[cfg(test)]
 mod refusal_tests;
+#[cfg(test)]
+mod run_tests;
+#[cfg(test)]
+mod selfrun_tests;
 #[cfg(test)]
 mod tests;
 #[cfg(test)]

@@ -1,5 +1,4 @@
-//! Code that no text of the first language gives, and the places or the refusal that it has to come
-//! to.
+//! Code that no text gives, and the places or the refusal that it has to come to.
 
 use jz_alloc::{NoPlace, Places, allocate};
 use jz_io::Span;

@@ -86,9 +86,9 @@ static ROWS: [Row; 30] = [
     Row {
         words: COMPILE,
         text: b"export fn f() -> reg u64 { reg u64 r; r = 1 + 2; return r; }",
-        status: Status::Syntax,
-        written: "syntax Unexpected 1:45 token 16\n",
-        made: 0,
+        status: Status::Ok,
+        written: "jasmin-listing 1\nfn f\nret r u64 rax\nframe 0\nsaved -\ninsns 2\ncode 48c7c003000000c3\ntr [] {op[]} [a:@0]\nct yes\nend\n",
+        made: 1,
     },
     Row {
         words: COMPILE,
@@ -114,8 +114,8 @@ static ROWS: [Row; 30] = [
     Row {
         words: COMPILE,
         text: b"export fn f(reg u64 a b c d e f g h i j) { }",
-        status: Status::Syntax,
-        written: "syntax Unexpected 1:39 token 15\n",
+        status: Status::Typing,
+        written: "type 9 ExportShape 1:11\n",
         made: 0,
     },
     Row {

@@ -1,9 +1,9 @@
 -- Which cause of `ct` is the first, and when none stands.
 use Rattle.std.proofs.Common.{◌≡◌, ℕ, ◌<◌, ◌≤◌, List, [], length, arith, Some, refl, sym, subst}
 use Rattle.std.specs.Prelude.{Result, Ok, Err, IfErr}
-use Rattle.jz_first.specs.Failure.{Failure}
-use Rattle.jz_first.specs.Failure.TheVariants as failure
-use Rattle.jz_first.specs.Failures.{IfRefused, IfAnswered}
+use Rattle.jz_tree.specs.Failure.{Failure}
+use Rattle.jz_tree.specs.Failure.TheVariants as failure
+use Rattle.jz_tree.specs.Failures.{IfRefused, IfAnswered}
 use Rattle.jz_listing.specs.declared.compiled.Compiled.{Compiled}
 use Rattle.jasminc_words.specs.Wanted.{ct}
 use Rattle.jasminc_ct.specs.declared.refused.Refused.{Refused}
@@ -13,29 +13,23 @@ use Rattle.jasminc_ct.specs.Causes as causes
 use Rattle.jasminc_ct.specs.Answers as answers
 use Rattle.jasminc_top.specs.declared.refusal.Status.TheVariants as status
 use Rattle.jasminc_top.specs.declared.refusal.Refusal.{Refusal}
-use Rattle.jasminc_top.specs.declared.refusal.Refusal.TheVariants.{Usage, ReadFault, Source, Lex, Parse, Typing, NoFunction, Limit, Alarm, NoPlace, Items, Interp, Disasm, Check, Ct}
+use Rattle.jasminc_top.specs.declared.refusal.Refusal.TheVariants.{Usage, ReadFault, Source, Interp, Disasm, Check, Ct, Compile, Exec}
 use Rattle.jasminc_top.specs.declared.answer.Reply.{Reply}
 use Rattle.jasminc_top.specs.Refusals.{all_stages}
-use Rattle.jasminc_top.specs.Stage.{ComesFrom}
+use Rattle.jasminc_source.specs.Stage.{ComesFrom}
 use Rattle.jasminc_top.specs.Answers.{source_limit, CtCause, Clear, IsFirstCause, IsDone, After}
-use Rattle.jasminc_top.proofs.Stopping.{stage_refuses}
+use Rattle.jasminc_source.proofs.Stopping.{stage_refuses}
 
 cleared : (text : List ℕ) (n : ℕ) → length text ≤ source_limit → causes.Clear text n → Clear (CtCause text) n
 cleared text n short clear Usage lt c = c
 cleared text n short clear ReadFault lt c = c
 cleared text n short clear Source lt c = absurd (omega (arith, short, c))
-cleared text n short clear (Lex fault) lt c = c
-cleared text n short clear (Parse fault) lt c = c
-cleared text n short clear (Typing fault) lt c = c
-cleared text n short clear (NoFunction name) lt c = c
-cleared text n short clear (Limit l) lt c = c
-cleared text n short clear (Alarm a) lt c = c
-cleared text n short clear (NoPlace r) lt c = c
-cleared text n short clear Items lt c = c
 cleared text n short clear (Interp r) lt c = c
 cleared text n short clear (Disasm f) lt c = c
 cleared text n short clear (Check r) lt c = c
 cleared text n short clear (Ct r) lt c = clear r lt c
+cleared text n short clear (Compile r) lt c = c
+cleared text n short clear (Exec r) lt c = c
 
 -- each cause is among the stages
 early : (r : Refused) → causes.stage_of r < answers.all_stages

@@ -2,7 +2,7 @@
 use Rattle.std.proofs.Common.{◌≡◌, ℕ, List, Option, Some, None, arith, refl, sym, subst, inl, inr}
 use Rattle.std.specs.Io.KnownBytes.{Appends}
 use Rattle.jz_listing.specs.declared.compiled.Compiled.{Compiled}
-use Rattle.jasminc_words.specs.Wanted.{Wanted, compile, exec, interp, disasm, check, ct}
+use Rattle.jasminc_words.specs.Wanted.{Wanted, compile, exec, interp, leak, disasm, check, ct, gen, selfrun}
 use Rattle.jasminc_top.specs.declared.refusal.Status.TheVariants as status
 use Rattle.jasminc_top.specs.declared.refusal.Refusal.TheVariants.{Ct}
 use Rattle.jasminc_top.specs.Told.{SourceTold, SinkTold}
@@ -34,9 +34,12 @@ judges_wish None told sink prints = tt
 judges_wish (Some (compile file)) told sink prints = tt
 judges_wish (Some (exec call)) told sink prints = tt
 judges_wish (Some (interp call)) told sink prints = tt
+judges_wish (Some (leak call)) told sink prints = tt
 judges_wish (Some (disasm file)) told sink prints = tt
 judges_wish (Some (check file)) told sink prints = tt
 judges_wish (Some (ct file)) told sink prints = prints file refl
+judges_wish (Some (gen seed size)) told sink prints = tt
+judges_wish (Some (selfrun seed size fuel)) told sink prints = tt
 
 pub run_judges : (run : Run) → Runs run → run.done.status ≡ status.Ok → Judges run.wish run.source run.sink
 run_judges run r ok = judges_wish run.wish run.source run.sink (λ file is. printed file run r is ok)

@@ -2,7 +2,7 @@
 use Rattle.std.proofs.Common.{◌≡◌, ◌∙◌, ℕ, List, Option, Some, None, refl, sym, subst, inl, inr}
 use Rattle.std.specs.Io.KnownBytes.{Appends}
 use Rattle.jz_listing.specs.declared.compiled.Compiled.{Compiled}
-use Rattle.jasminc_words.specs.Wanted.{Wanted, compile, exec, interp, disasm, check, ct}
+use Rattle.jasminc_words.specs.Wanted.{Wanted, compile, exec, interp, leak, disasm, check, ct, gen, selfrun}
 use Rattle.jasminc_top.specs.declared.refusal.Status.{Status}
 use Rattle.jasminc_top.specs.declared.refusal.Status.TheVariants as status
 use Rattle.jasminc_top.specs.Told.{SourceTold, SinkTold}
@@ -10,7 +10,7 @@ use Rattle.jasminc_top.specs.Answers.{IsDue, IsDone, Gives, GivesListing}
 use Rattle.jasminc_top.specs.Runs.{Run, Due, Runs}
 use Rattle.jasminc_top.specs.Headline.{PrintsCorrect, Compiles}
 use Rattle.jasminc_top.proofs.Rows.{never_refused}
-use Rattle.jasminc_top.proofs.TypedTexts.{text_correct}
+use Rattle.jasminc_compile.proofs.Coming.{made_correct, made_shows}
 
 pub same_command : (a b : Wanted) → Some a ≡ Some b → a ≡ b
 same_command a b e = cc
@@ -27,10 +27,11 @@ printed file told sink output made d wrote = elim d.answers [
       record {
         text = d.text;
         has = d.has;
-        program = g.program;
-        types = g.makes.types;
-        correct = text_correct d.text g.program made g.makes;
-        wrote = subst (λ (o : List ℕ). Appends sink.bytes sink.bytes_after o) g.output_is wrote;
+        program = g.gives.program;
+        types = g.gives.types;
+        correct = made_correct g.gives.program made g.gives.are_made;
+        secrets = made_shows g.gives.program made g.gives.are_made;
+        wrote = subst (λ (o : List ℕ). Appends sink.bytes sink.bytes_after o) g.gives.listed wrote;
       }
 ]
 
@@ -56,9 +57,12 @@ compiles_wish None told sink made prints = tt
 compiles_wish (Some (compile file)) told sink made prints = prints file refl
 compiles_wish (Some (exec call)) told sink made prints = tt
 compiles_wish (Some (interp call)) told sink made prints = tt
+compiles_wish (Some (leak call)) told sink made prints = tt
 compiles_wish (Some (disasm file)) told sink made prints = tt
 compiles_wish (Some (check file)) told sink made prints = tt
 compiles_wish (Some (ct file)) told sink made prints = tt
+compiles_wish (Some (gen seed size)) told sink made prints = tt
+compiles_wish (Some (selfrun seed size fuel)) told sink made prints = tt
 
 pub run_compiles : (run : Run) → Runs run → run.done.status ≡ status.Ok → Compiles run.wish run.source run.sink run.done.made
 run_compiles run r ok = compiles_wish run.wish run.source run.sink run.done.made (λ file is. prints_file file run r is ok)

@@ -2,7 +2,7 @@
 use Rattle.std.proofs.Common.{◌≡◌, ◌∙◌, ℕ, List, Option, Some, None, refl, sym, subst, inl, inr}
 use Rattle.std.specs.Io.KnownBytes.{Appends}
 use Rattle.jz_listing.specs.declared.compiled.Compiled.{Compiled}
-use Rattle.jasminc_words.specs.Wanted.{Called, Wanted, compile, exec, interp, disasm, check, ct}
+use Rattle.jasminc_words.specs.Wanted.{Called, Wanted, compile, exec, interp, leak, disasm, check, ct, gen, selfrun}
 use Rattle.jasminc_top.specs.declared.refusal.Status.{Status}
 use Rattle.jasminc_top.specs.declared.refusal.Status.TheVariants as status
 use Rattle.jasminc_top.specs.declared.refusal.Refusal.TheVariants.{Interp}
@@ -61,9 +61,12 @@ interprets_wish None told sink prints = tt
 interprets_wish (Some (compile file)) told sink prints = tt
 interprets_wish (Some (exec call)) told sink prints = tt
 interprets_wish (Some (interp call)) told sink prints = prints call refl
+interprets_wish (Some (leak call)) told sink prints = tt
 interprets_wish (Some (disasm file)) told sink prints = tt
 interprets_wish (Some (check file)) told sink prints = tt
 interprets_wish (Some (ct file)) told sink prints = tt
+interprets_wish (Some (gen seed size)) told sink prints = tt
+interprets_wish (Some (selfrun seed size fuel)) told sink prints = tt
 
 pub run_interprets : (run : Run) → Runs run → run.done.status ≡ status.Ok → Interprets run.wish run.source run.sink
 run_interprets run r ok = interprets_wish run.wish run.source run.sink (λ call is. prints_outcome call run status.Ok tt r is ok)

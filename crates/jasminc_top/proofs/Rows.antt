@@ -2,17 +2,18 @@
 use Rattle.std.proofs.Common.{◌≡◌, ◌⊎◌, ℕ, ◌<◌, ◌≤◌, inl, inr, List, [], refl, sym, ap, ◌∙◌, subst, arith, Option, Some, None}
 use Rattle.std.specs.Prelude.{⊤, ◌≢◌}
 use Rattle.jz_io.specs.Causes.{Rose}
-use Rattle.jz_io.specs.Telling.{Telling, text_of, IsWhole}
+use Rattle.jz_io.specs.Telling.{Telling, text_of}
 use Rattle.jz_listing.specs.declared.compiled.Compiled.{Compiled}
-use Rattle.jasminc_words.specs.Wanted.{Wanted, compile, exec, interp, disasm, check, ct, file_of}
+use Rattle.jasminc_words.specs.Inputs.{Origin, of_file, of_seed, origin_of}
+use Rattle.jasminc_words.specs.Wanted.{Wanted, compile, exec, interp, leak, disasm, check, ct, gen, selfrun}
 use Rattle.jasminc_top.specs.declared.refusal.Status.{Status}
 use Rattle.jasminc_top.specs.declared.refusal.Status.TheVariants as status
 use Rattle.jasminc_top.specs.declared.refusal.Refusal.{Refusal}
-use Rattle.jasminc_top.specs.declared.refusal.Refusal.TheVariants.{Usage, ReadFault, Interp, Disasm, Check, Ct}
-use Rattle.jasminc_top.specs.Refusals.{status_of_refused, status_of_fault, status_of_unsafe, status_of_breached, status_of, stage_of}
+use Rattle.jasminc_top.specs.declared.refusal.Refusal.TheVariants.{Usage, ReadFault, Interp, Disasm, Check, Ct, Compile, Exec}
+use Rattle.jasminc_top.specs.Refusals.{status_of_refused, status_of_fault, status_of_unsafe, status_of_breached, status_of_uncompiled, status_of_uncalled, status_of, stage_of}
 use Rattle.jasminc_top.specs.Told.{SourceTold}
-use Rattle.jasminc_exec.specs.declared.exec.Ran.{Ran}
-use Rattle.jasminc_exec.specs.declared.exec.Ran.TheVariants as ran
+use Rattle.jasminc_runs.specs.declared.telling.Ran.{Ran}
+use Rattle.jasminc_runs.specs.declared.telling.Ran.TheVariants as ran
 use Rattle.jasminc_interp.specs.declared.telling.Ran as source
 use Rattle.jasminc_interp.specs.declared.telling.Ran.TheVariants as source_ran
 use Rattle.jasminc_interp.specs.declared.refused.Refused.{Refused}
@@ -25,12 +26,19 @@ use Rattle.jasminc_check.specs.Causes as checks
 use Rattle.jasminc_ct.specs.declared.refused.Refused as judging
 use Rattle.jasminc_ct.specs.declared.refused.Refused.TheVariants as judged
 use Rattle.jasminc_ct.specs.Causes as judgements
+use Rattle.jasminc_compile.specs.declared.refused.Refused as making
+use Rattle.jasminc_compile.specs.declared.refused.Refused.TheVariants as made
+use Rattle.jasminc_compile.specs.declared.outcome.Unmade.TheVariants as unmade
+use Rattle.jasminc_compile.specs.Causes as makings
+use Rattle.jasminc_called.specs.declared.refused.Refused as calling
+use Rattle.jasminc_called.specs.declared.refused.Refused.TheVariants as uncalled
+use Rattle.jasminc_called.specs.Causes as calls
 use Rattle.jz_disasm_text.specs.declared.Fault.{Fault}
 use Rattle.jz_disasm_text.specs.declared.Fault.TheVariants as fault
-use Rattle.jasminc_top.specs.Answers.{Cause, HasText, IsDue, IsUsage, IsNoCommand, IsQuiet, IsToldBy, IsToldAs, IsResult, Gives}
-use Rattle.jasminc_top.specs.Runs.{Run, Due, Runs, ReadsAll, Refuses, Completes, IsFree, IsGiven, IsEarlier, Tells, IsCaused, ComesOnly, IsTooLong}
+use Rattle.jasminc_top.specs.Answers.{Cause, HasInput, HasText, WasRead, IsDue, IsUsage, IsNoCommand, IsQuiet, IsToldBy, IsToldAs, IsResult, Gives}
+use Rattle.jasminc_top.specs.Runs.{Run, Due, Runs, ReadsAll, Refuses, Completes, IsFree, IsGiven, IsEarlier, TellsInput, Tells, IsCaused, ComesOnly, IsTooLong}
 
-run_bounded : (r : Refused) → interp_causes.stage_of r < 11
+run_bounded : (r : Refused) → interp_causes.stage_of r < 13
 run_bounded (refusing.Unread (unread.Lex fault)) = omega arith
 run_bounded (refusing.Unread (unread.Parse fault)) = omega arith
 run_bounded (refusing.Unread (unread.Typing fault)) = omega arith
@@ -39,35 +47,57 @@ run_bounded (refusing.Limit l) = omega arith
 run_bounded refusing.Items = omega arith
 run_bounded (refusing.Unmet pre) = omega arith
 
-check_bounded : (r : checking.Refused) → checks.stage_of r < 11
+check_bounded : (r : checking.Refused) → checks.stage_of r < 13
 check_bounded (found.Unread (unread.Lex fault)) = omega arith
 check_bounded (found.Unread (unread.Parse fault)) = omega arith
 check_bounded (found.Unread (unread.Typing fault)) = omega arith
 check_bounded (found.Limit l) = omega arith
 check_bounded (found.Alarm a) = omega arith
 
-ct_bounded : (r : judging.Refused) → judgements.stage_of r < 11
+ct_bounded : (r : judging.Refused) → judgements.stage_of r < 13
 ct_bounded (judged.Unread (unread.Lex fault)) = omega arith
 ct_bounded (judged.Unread (unread.Parse fault)) = omega arith
 ct_bounded (judged.Unread (unread.Typing fault)) = omega arith
 ct_bounded (judged.Limit l) = omega arith
 ct_bounded (judged.Breach b) = omega arith
 
-bounded : (r : Refusal) → stage_of r < 11
+compile_bounded : (r : making.Refused) → makings.stage_of r < 13
+compile_bounded (made.Unread (unread.Lex fault)) = omega arith
+compile_bounded (made.Unread (unread.Parse fault)) = omega arith
+compile_bounded (made.Unread (unread.Typing fault)) = omega arith
+compile_bounded (made.Limit l) = omega arith
+compile_bounded (made.Alarm a) = omega arith
+compile_bounded (made.Making (unmade.NoOperations at)) = omega arith
+compile_bounded (made.Making (unmade.Frame name)) = omega arith
+compile_bounded (made.Making (unmade.NoPlace w)) = omega arith
+
+call_bounded : (r : calling.Refused) → calls.stage_of r < 13
+call_bounded (uncalled.Compile r) = compile_bounded r
+call_bounded (uncalled.NoFunction name) = omega arith
+call_bounded uncalled.Items = omega arith
+call_bounded (uncalled.Unmet pre) = omega arith
+
+bounded : (r : Refusal) → stage_of r < 13
 bounded Usage = omega arith
 bounded (Interp r) = run_bounded r
 bounded (Check r) = check_bounded r
 bounded (Ct r) = ct_bounded r
+bounded (Compile r) = compile_bounded r
+bounded (Exec r) = call_bounded r
 bounded _ = omega arith
 
 same_text : (a b : List ℕ) (o : Option (List ℕ)) → o ≡ Some a → o ≡ Some b → a ≡ b
 same_text a b o p q = cc
 
 -- the text that was read is the text that is told
+same_input : (o : Origin) (files : Option Telling) (text other : List ℕ) → HasInput o files text → TellsInput o files other → text ≡ other
+same_input (of_file name) None text other h t = absurd t
+same_input (of_file name) (Some told) text other h t = same_text text other (text_of told.texts name) h t
+same_input (of_seed seed size) files text other h t = h ∙ sym t
+
 same_told : (wish : Option Wanted) (files : Option Telling) (text other : List ℕ) → HasText wish files text → Tells wish files other → text ≡ other
 same_told None files text other h t = h ∙ sym t
-same_told (Some wish) None text other h t = absurd t
-same_told (Some wish) (Some told) text other h t = same_text text other (text_of told.texts (file_of wish)) h t
+same_told (Some wish) files text other h t = same_input (origin_of wish) files text other h t
 
 no_less : (a b : ℕ) → (b < a → ⊥) → a ≤ b
 no_less a b h = grind arith
@@ -164,12 +194,30 @@ no_other_ct (judged.Unread (unread.Typing fault)) h = h
 no_other_ct (judged.Limit l) h = h
 no_other_ct (judged.Breach b) h = h
 
+no_other_compile : (r : making.Refused) → IsOther (status_of_uncompiled r) → ⊥
+no_other_compile (made.Unread (unread.Lex fault)) h = h
+no_other_compile (made.Unread (unread.Parse fault)) h = h
+no_other_compile (made.Unread (unread.Typing fault)) h = h
+no_other_compile (made.Limit l) h = h
+no_other_compile (made.Alarm a) h = h
+no_other_compile (made.Making (unmade.NoOperations at)) h = h
+no_other_compile (made.Making (unmade.Frame name)) h = h
+no_other_compile (made.Making (unmade.NoPlace w)) h = h
+
+no_other_call : (r : calling.Refused) → IsOther (status_of_uncalled r) → ⊥
+no_other_call (uncalled.Compile r) h = no_other_compile r h
+no_other_call (uncalled.NoFunction name) h = h
+no_other_call uncalled.Items h = h
+no_other_call (uncalled.Unmet pre) h = h
+
 no_other : (r : Refusal) → IsOther (status_of r) → ⊥
 no_other Usage h = h
 no_other (Interp r) h = no_other_run r h
 no_other (Disasm f) h = no_other_fault f h
 no_other (Check r) h = no_other_check r h
 no_other (Ct r) h = no_other_ct r h
+no_other (Compile r) h = no_other_compile r h
+no_other (Exec r) h = no_other_call r h
 no_other r h = h
 
 pub never_refused : (r : Refusal) (s : Status) → IsOther s → s ≡ status_of r → ⊥
@@ -180,18 +228,24 @@ pub never_usage : (wish : Wanted) (text : List ℕ) → Cause (Some wish) text U
 never_usage (compile file) text c = c
 never_usage (exec call) text c = c
 never_usage (interp call) text c = c
+never_usage (leak call) text c = c
 never_usage (disasm file) text c = c
 never_usage (check file) text c = c
 never_usage (ct file) text c = c
+never_usage (gen seed size) text c = c
+never_usage (selfrun seed size fuel) text c = c
 
 pub never_read_fault : (wish : Option Wanted) (text : List ℕ) → Cause wish text ReadFault → ⊥
 never_read_fault None text c = cc
 never_read_fault (Some (compile file)) text c = c
 never_read_fault (Some (exec call)) text c = c
 never_read_fault (Some (interp call)) text c = c
+never_read_fault (Some (leak call)) text c = c
 never_read_fault (Some (disasm file)) text c = c
 never_read_fault (Some (check file)) text c = c
 never_read_fault (Some (ct file)) text c = c
+never_read_fault (Some (gen seed size)) text c = c
+never_read_fault (Some (selfrun seed size fuel)) text c = c
 
 usage_caused : (wish : Option Wanted) (text : List ℕ) → Cause wish text Usage → wish ≡ None
 usage_caused None text c = refl
@@ -214,11 +268,14 @@ outcome_result (source_ran.Stuck text) s output t = subst IsResult (sym t.0) tt
 
 pub gives_result : (wish : Wanted) (text : List ℕ) (s : Status) (output : List ℕ) (made : List Compiled) → Gives wish text s output made → IsResult s
 gives_result (compile file) text s output made g = subst IsResult (sym g.ok) tt
-gives_result (exec call) text s output made g = told_result g.run.ran s output g.run.told
+gives_result (exec call) text s output made g = told_result g.ran s output g.told
 gives_result (interp call) text s output made g = outcome_result g.ran s output g.told
+gives_result (leak call) text s output made g = told_result g.ran s output g.told
 gives_result (disasm file) text s output made g = subst IsResult (sym g.ok) tt
 gives_result (check file) text s output made g = subst IsResult (sym g.ok) tt
 gives_result (ct file) text s output made g = subst IsResult (sym g.ok) tt
+gives_result (gen seed size) text s output made g = subst IsResult (sym g.ok) tt
+gives_result (selfrun seed size fuel) text s output made g = told_result g.ran s output g.told
 
 pub result_other : (s : Status) → IsResult s → IsOther s
 result_other status.Ok r = tt
@@ -270,9 +327,9 @@ no_command None told s output made d none = elim d.answers [
 no_command (Some wish) told s output made d none = absurd none
 
 due_read : (wish : Option Wanted) (told : SourceTold) (s : Status) (output : List ℕ) (made : List Compiled) → IsDue wish told s output made → (s ≡ status.Usage → ⊥)
-    → IsWhole told.files_after ⊎ IsTooLong wish told
+    → WasRead wish told ⊎ IsTooLong wish told
 due_read wish told s output made d other = elim d.read [
-  | inl whole ↦ inl whole
+  | inl was ↦ inl was
   | inr (inl none) ↦ absurd (other (no_command wish told s output made d none))
   | inr (inr long) ↦ inr (d.text, d.has, long)
 ]
@@ -317,11 +374,14 @@ run_made_at (ran.Cut text) s output ok cut t = cut t.0
 gives_none : (wish : Wanted) (text : List ℕ) (s : Status) (output : List ℕ) (made : List Compiled) → (s ≡ status.Ok → ⊥) → (s ≡ status.OutOfFuel → ⊥)
     → Gives wish text s output made → made ≡ []
 gives_none (compile file) text s output made ok cut g = absurd (ok g.ok)
-gives_none (exec call) text s output made ok cut g = absurd (run_made_at g.run.ran s output ok cut g.run.told)
+gives_none (exec call) text s output made ok cut g = absurd (run_made_at g.ran s output ok cut g.told)
 gives_none (interp call) text s output made ok cut g = g.none
+gives_none (leak call) text s output made ok cut g = absurd (run_made_at g.ran s output ok cut g.told)
 gives_none (disasm file) text s output made ok cut g = g.none
 gives_none (check file) text s output made ok cut g = g.none
 gives_none (ct file) text s output made ok cut g = g.none
+gives_none (gen seed size) text s output made ok cut g = g.none
+gives_none (selfrun seed size fuel) text s output made ok cut g = absurd (run_made_at g.ran s output ok cut g.told)
 
 due_made : (wish : Option Wanted) (told : SourceTold) (s : Status) (output : List ℕ) (made : List Compiled) → IsDue wish told s output made
     → (s ≡ status.Ok → ⊥) → (s ≡ status.OutOfFuel → ⊥) → made ≡ []

@@ -7,6 +7,8 @@ use Rattle.jz_types.specs.declared.fault.TypeFault.{TypeFault}
 use Rattle.jz_types.specs.Faults.{rule_number}
 use Rattle.jz_limits.specs.declared.limit.Limit.{Limit}
 use Rattle.jz_limits.specs.declared.limit.Limit.TheVariants as limit
+use Rattle.jz_annotations.specs.declared.precondition.Pre.{Pre}
+use Rattle.jz_tree.specs.Span.{Span}
 use Rattle.jz_text.specs.Texts.{span_text}
 use Rattle.jasminc_lines.specs.Preconditions.{pre_text}
 use Rattle.jasminc_source.specs.declared.limits.FunLimit.{FunLimit}
@@ -55,9 +57,22 @@ unread_text (unread.Lex fault) = lexer_line fault
 unread_text (unread.Parse fault) = parser_line fault
 unread_text (unread.Typing fault) = type_line fault
 
+-- what has no operations yet is told as a statement without an instruction
+abbrev pub operations_line : Span → List ℕ
+operations_line at = codes "type 6 NoInstruction " ++ span_text at
+
+abbrev pub frame_line : List ℕ → List ℕ
+frame_line name = codes "limit Frame " ++ name
+
+abbrev pub unknown_text : List ℕ → List ℕ
+unknown_text name = codes "unknown function " ++ name
+
+abbrev pub unmet_text : Pre → List ℕ
+unmet_text pre = codes "precondition " ++ pre_text pre
+
 abbrev pub refused_text : Refused → List ℕ
 refused_text (refused.Unread u) = unread_text u
-refused_text (refused.NoFunction name) = codes "unknown function " ++ name
+refused_text (refused.NoFunction name) = unknown_text name
 refused_text (refused.Limit l) = limit_text l
 refused_text refused.Items = codes "precondition items"
-refused_text (refused.Unmet pre) = codes "precondition " ++ pre_text pre
+refused_text (refused.Unmet pre) = unmet_text pre

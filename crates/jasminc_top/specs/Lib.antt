@@ -2,11 +2,11 @@ pub mod Lines
 pub mod InterpLines
 pub mod DisasmLines
 pub mod CheckLines
+pub mod CompileLines
 pub mod CtLines
+pub mod RunLines
 pub mod Refusals
-pub mod Making
 pub mod Told
-pub mod Stage
 pub mod Answers
 pub mod Runs
 pub mod Headline

@@ -2,13 +2,15 @@
 use Rattle.std.specs.Prelude.{◌≡◌, ◌⊎◌, ◌≤◌, ℕ, List, [], codes, Option, Some, None, ⊤}
 use Rattle.std.specs.Io.KnownBytes.{Appends}
 use Rattle.jz_io.specs.Causes.{Rose}
-use Rattle.jz_io.specs.Telling.{Telling, text_of, IsWhole}
+use Rattle.jz_io.specs.Telling.{Telling, text_of}
 use Rattle.jz_io.specs.Written.{WritesPrefix}
 use Rattle.jz_listing.specs.declared.compiled.Compiled.{Compiled}
-use Rattle.jasminc_words.specs.Wanted.{Wanted, file_of}
+use Rattle.jz_gen.specs.Programs as programs
+use Rattle.jasminc_words.specs.Wanted.{Wanted}
+use Rattle.jasminc_words.specs.Inputs.{Origin, of_file, of_seed, origin_of}
 use Rattle.jasminc_top.specs.Refusals.{status_of, line_of, stage_of}
 use Rattle.jasminc_top.specs.Told.{SourceTold, SinkTold}
-use Rattle.jasminc_top.specs.Answers.{IsDue, Faulted, HasText, Gives, Cause, IsQuiet}
+use Rattle.jasminc_top.specs.Answers.{IsDue, Faulted, HasText, Gives, Cause, IsQuiet, WasRead}
 use Rattle.jasminc_top.specs.declared.refusal.Refusal.{Refusal}
 use Rattle.jasminc_top.specs.declared.refusal.Refusal.TheVariants as refusal
 use Rattle.jasminc_top.specs.declared.refusal.Status.{Status}
@@ -79,11 +81,17 @@ IsFree status.WriteFault = ⊤
 IsFree status.Memory = ⊤
 IsFree _ = ⊥
 
--- the text that a source tells of; a source that tells nothing tells of none
+-- the text that a source tells of a file, where one that tells nothing tells of none; or the
+-- program of a seed and a size
+abbrev pub TellsInput : Origin → Option Telling → List ℕ → Type 0
+TellsInput (of_file name) None text = ⊥
+TellsInput (of_file name) (Some told) text = text_of told.texts name ≡ Some text
+TellsInput (of_seed seed size) files text = text ≡ programs.program seed size
+
+-- the text of a command
 abbrev pub Tells : Option Wanted → Option Telling → List ℕ → Type 0
 Tells None files text = text ≡ []
-Tells (Some wish) None text = ⊥
-Tells (Some wish) (Some told) text = text_of told.texts (file_of wish) ≡ Some text
+Tells (Some wish) files text = TellsInput (origin_of wish) files text
 
 -- a refusal of this stage or an earlier one, with its cause
 pub record IsEarlier (wish : Option Wanted) (text : List ℕ) (stage : ℕ) (s : Status) : Type 0 where
@@ -118,11 +126,11 @@ abbrev pub IsTooLong : Option Wanted → SourceTold → Type 0
 IsTooLong wish told =
     (text : List ℕ) × HasText wish told.files text × Cause wish text refusal.Source
 
--- at this status the source was read to its end, unless the words, a fault, the memory or the
--- length ended the command before
+-- at this status the source was read to its end, or left as it was where no file is read; unless
+-- the words, a fault, the memory or the length ended the command before
 abbrev pub ReadsAll : Option Wanted → SourceTold → Status → Type 0
 ReadsAll wish told status.Usage = ⊤
 ReadsAll wish told status.ReadFault = ⊤
 ReadsAll wish told status.WriteFault = ⊤
 ReadsAll wish told status.Memory = ⊤
-ReadsAll wish told s = IsWhole told.files_after ⊎ IsTooLong wish told
+ReadsAll wish told s = WasRead wish told ⊎ IsTooLong wish told

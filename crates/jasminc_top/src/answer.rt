@@ -1,36 +1,35 @@
 //! From the words and the source to what is due: a reply, or a refusal.
 
-ghost use Rattle.std.specs.Prelude.{◌≡◌, ◌≤◌, [], All, Some, IfOk, IfErr, OnOk, IsErrOf, length};
-ghost use Rattle.std.specs.Option.{option_copied};
-ghost use Rattle.jz_first.specs.Failures.{IfRefused, IfAnswered};
+ghost use Rattle.std.specs.Prelude.{◌≡◌, ◌≤◌, ℕ, [], Some, IfOk, IfErr, OnOk, IsErrOf, length};
+ghost use Rattle.jz_tree.specs.Failures.{IfRefused, IfAnswered};
 ghost use Rattle.jz_io.specs.Telling.{IsWhole};
-ghost use Rattle.jz_items.specs.Items.{words_of};
-ghost use Rattle.jasminc_words.specs.Wanted.{compile, exec, interp, disasm, check, ct};
-ghost use Rattle.jasminc_words.specs.Wanted.{called_of, wanted_of};
-ghost use Rattle.jasminc_words.specs.Wanted.{texts_of, wanted_command};
-ghost use Rattle.jasminc_top.specs.Making.{TypesAs, IsWritten, AreMade};
+ghost use Rattle.jz_items.specs.Items.{AreItems};
+ghost use Rattle.jasminc_words.specs.Wanted.{compile, exec, interp, leak, disasm, check, ct};
+ghost use Rattle.jasminc_words.specs.Wanted.{gen, selfrun, called_of, wanted_of};
+ghost use Rattle.jasminc_words.specs.Inputs.{input_of, origin_of};
+ghost use Rattle.jasminc_words.specs.Wanted.{texts_of, wanted_command, HasNumbers};
 ghost use Rattle.jasminc_top.specs.Told.{source_told};
-ghost use Rattle.jasminc_top.specs.Answers.{source_limit, function_named, compiled_named};
+ghost use Rattle.jasminc_top.specs.Answers.{source_limit};
 ghost use Rattle.jasminc_top.specs.Answers.{IsShortFile, IsLongFile, IsReadFault, FileRefuses};
-ghost use Rattle.jasminc_top.specs.Answers.{ReadingRefuses, MakingRefuses, RunsOne};
-ghost use Rattle.jasminc_top.specs.Answers.{IsSafeOne, IsToldAs, After, Performs};
+ghost use Rattle.jasminc_top.specs.Answers.{IsShortInput, IsInputRead, InputRefuses, IsQuiet};
+ghost use Rattle.jasminc_top.specs.Answers.{IsToldBy, IsToldAs, IsDone, After, Performs};
 
 use crate::refusal::{Refusal, Status};
-use crate::stage::as_refusal;
+use jasminc_called::{Ran, Told, exec_text, leak_text};
 use jasminc_check::check_text;
+use jasminc_compile::{Compilation, compile_text};
 use jasminc_ct::ct_text;
-use jasminc_exec::{Ran, exec_text, items_are_words};
 use jasminc_interp as source;
 use jasminc_interp::interp_text;
-use jasminc_words::{Call, Request, request_of};
+use jasminc_selfrun::selfrun_text;
+use jasminc_source::as_refused;
+use jasminc_words::{Call, Input, Request, request_of};
 use jz_disasm_text::disasm_text;
-use jz_first::{Failure, Fun, Seq, Text, Typed, check, parse_first};
-use jz_grammar::lex;
+use jz_gen::{generate, programs_are_short};
 use jz_io::{Bytes, ReadRefused, Source, read_all};
-use jz_items::words_of;
-use jz_listing::{Compiled, listing};
-use jz_pipeline::{compile_all, expand_all, safe_all};
-use std::alloc::{AllocError, Global};
+use jz_listing::Compiled;
+use jz_tree::{Failure, Seq};
+use std::alloc::Global;
 
 const SOURCE_LIMIT: usize = 1_048_576;
 
@@ -72,111 +71,80 @@ fn file_text<S: Source>(alloc: Global, src: &mut S, file: &str) -> Result<Bytes,
     }
 }
 
-/// The typed program of a text.
-fn typed_program(alloc: Global, text: &[u8]) -> Result<Typed, Failure<Refusal>>
-    requires { length text.now ≤ source_limit }
-    ensures program { IfOk result (λ typed. TypesAs text.now typed.program) }
-    ensures refused { IfErr result (λ e. IfRefused e (ReadingRefuses text.now)) }
+/// The text of a command: of its file, up to the limit, or the program of its seed and its size.
+fn text_of<S: Source>(
+    alloc: Global,
+    src: &mut S,
+    request: &Request<'_>,
+) -> Result<Bytes, Failure<Refusal>>
+    requires { HasNumbers (wanted_of request.now) }
+    ensures text { IfOk result (IsShortInput (origin_of (wanted_of request.now)) (S.told src.old)) }
+    ensures read { let told = source_told S.told S.faults src.old src.new
+        in OnOk result (IsInputRead (origin_of (wanted_of request.now)) told × IsQuiet told) }
+    ensures refused { let told = source_told S.told S.faults src.old src.new
+        in IfErr result (λ e. IfRefused e
+        (InputRefuses (origin_of (wanted_of request.now)) told)) }
 {
-    let tokens = as_refusal(lex(alloc, text), Refusal::Lex)?;
-    let program = as_refusal(parse_first(alloc, &tokens), Refusal::Parse)?;
-    let typed = as_refusal(check(alloc, program), Refusal::Typing)?;
-    Ok(typed)
+    let input = request.input();
+    match input {
+        Input::File(file) => file_text(alloc, src, file),
+        Input::Program { seed, size } => {
+            programs_are_short();
+            let text = generate(alloc, seed, size)?;
+            Ok(text)
+        }
+    }
 }
 
-/// The functions of a typed program, compiled.
-fn compile_typed(alloc: Global, typed: &Typed) -> Result<Seq<Compiled>, Failure<Refusal>>
-    requires { All IsWritten typed.now.program.funs }
-    ensures made { IfOk result (AreMade typed.now.program.funs) }
-    ensures refused { IfErr result (λ e. IfRefused e (MakingRefuses typed.now.program.funs)) }
-{
-    typed.has_different_names();
-    typed.has_declarations();
-    typed.has_counts();
-    let expanded = as_refusal(expand_all(alloc, typed), Refusal::Limit)?;
-    let safes = as_refusal(safe_all(alloc, expanded), Refusal::Alarm)?;
-    let made = as_refusal(compile_all(alloc, &safes), Refusal::NoPlace)?;
-    Ok(made)
-}
-
-/// The listing of a text's functions.
-fn compile_text(alloc: Global, file: &str, text: &[u8]) -> Result<Reply, Failure<Refusal>>
+/// The export functions of a text, compiled, and their listing.
+fn compile_reply(alloc: Global, file: &str, text: &[u8]) -> Result<Reply, Failure<Refusal>>
     requires { length text.now ≤ source_limit }
     ensures { IfAnswered result (After (Some (compile file.now)) text.now) }
 {
-    let typed = typed_program(alloc, text)?;
-    let made = compile_typed(alloc, &typed)?;
-    let listing = listing(alloc, made.as_slice())?;
+    let answer = compile_text(alloc, text);
+    let compiled = as_refused(answer, Refusal::Compile)?;
+    let Compilation { functions, listing } = compiled;
     Ok(Reply {
         status: Status::Ok,
         text: listing,
-        made,
+        made: functions,
     })
 }
 
-/// The first function with this name.
-fn function_named<'a>(funs: &'a [Fun], name: &str) -> Option<&'a Fun>
-    ensures { option_copied result ≡ function_named name.now funs.now }
+/// What a call of a compiled function is told by, beside what was made for it.
+fn told_reply(ran: Ran, made: Seq<Compiled>) -> Reply
+    ensures told { IsToldBy ran result.status result.text }
+    ensures made { result.made ≡ made }
 {
-    funs.iter().find(|fun| fun.name.as_str() == name)
-}
-
-/// The first of what was made with this name.
-fn compiled_named<'a>(made: &'a [Compiled], name: &str) -> Option<&'a Compiled>
-    ensures { option_copied result ≡ compiled_named name.now made.now }
-{
-    made.iter().find(|compiled| compiled.name.as_str() == name)
-}
-
-/// The run of one of the functions that were made, on the words of its items.
-fn run_reply(
-    alloc: Global,
-    made: Seq<Compiled>,
-    call: &Call<'_>,
-    words: &[u64],
-) -> Result<Reply, AllocError>
-    requires safe { IsSafeOne made call.now.fun.now words.now }
-    requires words { words.now ≡ words_of call.now.items }
-    ensures runs { let call = called_of call.now
-        in IfOk result (λ r. RunsOne call r.status r.text r.made) }
-    ensures made { IfOk result (λ r. r.made ≡ made) }
-{
-    let Some(compiled) = compiled_named(made.as_slice(), call.fun) else {
-        unreachable!()
+    let (status, text) = match ran {
+        Ran::Ended(text) => (Status::Ok, text),
+        Ran::Cut(text) => (Status::OutOfFuel, text),
     };
-    let ran = exec_text(alloc, compiled, words, call.fuel)?;
-    match ran {
-        Ran::Ended(text) => Ok(Reply {
-            status: Status::Ok,
-            text,
-            made,
-        }),
-        Ran::Cut(text) => Ok(Reply {
-            status: Status::OutOfFuel,
-            text,
-            made,
-        }),
-    }
+    Reply { status, text, made }
 }
 
-/// The run of a text's function.
+/// The run of what a function of a text is compiled to.
 fn exec_reply(alloc: Global, call: &Call<'_>, text: &[u8]) -> Result<Reply, Failure<Refusal>>
-    requires { length text.now ≤ source_limit }
+    requires short { length text.now ≤ source_limit }
+    requires given { AreItems call.now.items }
     ensures { IfAnswered result (After (Some (exec (called_of call.now))) text.now) }
 {
-    let typed = typed_program(alloc, text)?;
-    let Some(function) = function_named(typed.program().funs.as_slice(), call.fun) else {
-        let name = Text::from_string(String::from_str(alloc, call.fun)?);
-        return Err(Failure::Refused(Refusal::NoFunction(name)));
-    };
-    let made = compile_typed(alloc, &typed)?;
-    let words = words_of(alloc, &call.items)?;
-    let items = words.as_slice();
-    if items.len() != function.params.len() {
-        return Err(Failure::Refused(Refusal::Items));
-    }
-    items_are_words(items);
-    Ok(run_reply(alloc, made, call, items)?)
+    let answer = exec_text(alloc, text, call.fun, &call.items, call.fuel);
+    let told = as_refused(answer, Refusal::Exec)?;
+    let Told { ran, functions } = told;
+    Ok(told_reply(ran, functions))
+}
+
+/// What a function of a text shows, by the transformer that it is compiled with.
+fn leak_reply(alloc: Global, call: &Call<'_>, text: &[u8]) -> Result<Reply, Failure<Refusal>>
+    requires short { length text.now ≤ source_limit }
+    requires given { AreItems call.now.items }
+    ensures { IfAnswered result (After (Some (leak (called_of call.now))) text.now) }
+{
+    let answer = leak_text(alloc, text, call.fun, &call.items, call.fuel);
+    let told = as_refused(answer, Refusal::Exec)?;
+    let Told { ran, functions } = told;
+    Ok(told_reply(ran, functions))
 }
 
 /// What a run of the source is told by. Nothing was made for it.
@@ -196,13 +164,13 @@ fn outcome_reply(alloc: Global, ran: source::Ran) -> Reply
     }
 }
 
-/// The run of a function of a text in the whole language.
+/// The run of a function of a text in the source.
 fn interp_reply(alloc: Global, call: &Call<'_>, text: &[u8]) -> Result<Reply, Failure<Refusal>>
     requires { length text.now ≤ source_limit }
     ensures { IfAnswered result (After (Some (interp (called_of call.now))) text.now) }
 {
     let answer = interp_text(alloc, text, call.fun, &call.items, call.fuel);
-    let ran = as_refusal(answer, Refusal::Interp)?;
+    let ran = as_refused(answer, Refusal::Interp)?;
     Ok(outcome_reply(alloc, ran))
 }
 
@@ -212,7 +180,7 @@ fn disasm_reply(alloc: Global, file: &str, text: &[u8]) -> Result<Reply, Failure
     ensures { IfAnswered result (After (Some (disasm file.now)) text.now) }
 {
     let answer = disasm_text(alloc, text);
-    let lines = as_refusal(answer, Refusal::Disasm)?;
+    let lines = as_refused(answer, Refusal::Disasm)?;
     Ok(Reply {
         status: Status::Ok,
         text: lines,
@@ -226,7 +194,7 @@ fn check_reply(alloc: Global, file: &str, text: &[u8]) -> Result<Reply, Failure<
     ensures { IfAnswered result (After (Some (check file.now)) text.now) }
 {
     let answer = check_text(alloc, text);
-    let safe = as_refusal(answer, Refusal::Check)?;
+    let safe = as_refused(answer, Refusal::Check)?;
     Ok(Reply {
         status: Status::Ok,
         text: safe,
@@ -240,12 +208,41 @@ fn ct_reply(alloc: Global, file: &str, text: &[u8]) -> Result<Reply, Failure<Ref
     ensures { IfAnswered result (After (Some (ct file.now)) text.now) }
 {
     let answer = ct_text(alloc, text);
-    let constant = as_refusal(answer, Refusal::Ct)?;
+    let constant = as_refused(answer, Refusal::Ct)?;
     Ok(Reply {
         status: Status::Ok,
         text: constant,
         made: Seq::new(alloc),
     })
+}
+
+/// A text that is told as it is. Nothing is made for it.
+fn text_reply(alloc: Global, text: Bytes) -> Reply
+    ensures { (seed size : ℕ)
+        → IsDone (Some (gen seed size)) text result.status result.text result.made }
+{
+    Reply {
+        status: Status::Ok,
+        text,
+        made: Seq::new(alloc),
+    }
+}
+
+/// The run of what a program from a number is compiled to, with its summary.
+fn selfrun_reply(
+    alloc: Global,
+    seed: u32,
+    size: u32,
+    fuel: u64,
+    text: &[u8],
+) -> Result<Reply, Failure<Refusal>>
+    requires { length text.now ≤ source_limit }
+    ensures { IfAnswered result (After (Some (selfrun seed size fuel)) text.now) }
+{
+    let answer = selfrun_text(alloc, text, seed, size, fuel);
+    let told = as_refused(answer, Refusal::Exec)?;
+    let Told { ran, functions } = told;
+    Ok(told_reply(ran, functions))
 }
 
 /// A request, from the reading on.
@@ -254,17 +251,23 @@ fn perform<S: Source>(
     request: Request<'_>,
     src: &mut S,
 ) -> Result<Reply, Failure<Refusal>>
+    requires { HasNumbers (wanted_of request) }
     ensures { let told = source_told S.told S.faults src.old src.new
         in IfAnswered result (Performs (Some (wanted_of request.entry)) told) }
 {
-    let text = file_text(alloc, src, request.file())?;
+    let text = text_of(alloc, src, &request)?;
     match request {
-        Request::Compile { file } => compile_text(alloc, file, text.as_slice()),
+        Request::Compile { file } => compile_reply(alloc, file, text.as_slice()),
         Request::Exec(call) => exec_reply(alloc, &call, text.as_slice()),
         Request::Interp(call) => interp_reply(alloc, &call, text.as_slice()),
+        Request::Leak(call) => leak_reply(alloc, &call, text.as_slice()),
         Request::Disasm { file } => disasm_reply(alloc, file, text.as_slice()),
         Request::Check { file } => check_reply(alloc, file, text.as_slice()),
         Request::Ct { file } => ct_reply(alloc, file, text.as_slice()),
+        Request::Gen { .. } => Ok(text_reply(alloc, text)),
+        Request::Selfrun { seed, size, fuel } => {
+            selfrun_reply(alloc, seed, size, fuel, text.as_slice())
+        }
     }
 }
 

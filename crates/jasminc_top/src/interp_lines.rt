@@ -3,15 +3,18 @@
 
 ghost use Rattle.std.specs.Prelude.{◌≡◌, ◌++◌, OnOk};
 ghost use Rattle.jasminc_top.specs.InterpLines.{rule_name, type_line, limit_name, limit_subject};
-ghost use Rattle.jasminc_top.specs.InterpLines.{limit_text, unread_text, refused_text};
+ghost use Rattle.jasminc_top.specs.InterpLines.{limit_text, unread_text};
+ghost use Rattle.jasminc_top.specs.InterpLines.{operations_line, frame_line};
+ghost use Rattle.jasminc_top.specs.InterpLines.{unknown_text, unmet_text, refused_text};
 
 use crate::lines::{write_lex_fault, write_syntax_fault};
 use jasminc_interp::Refused;
 use jasminc_lines::write_pre;
 use jasminc_source::{FunLimit, Unread};
-use jz_first::Text;
 use jz_first_limit::Limit;
+use jz_preconditions::Pre;
 use jz_text::{write_number, write_span};
+use jz_tree::{Span, Text};
 use jz_types::{TypeFault, TypeRule};
 use std::alloc::AllocError;
 
@@ -88,20 +91,46 @@ pub fn write_unread(line: &mut Vec<u8>, unread: Unread) -> Result<(), AllocError
     }
 }
 
+/// That a statement at a place has no operations yet.
+pub fn write_no_operations(line: &mut Vec<u8>, at: Span) -> Result<(), AllocError>
+    ensures { OnOk result (line.new.items ≡ line.old.items ++ operations_line at) }
+{
+    line.extend_from_slice(b"type 6 NoInstruction ")?;
+    write_span(line, at)
+}
+
+/// That the frame of the function of this name is too large.
+pub fn write_frame(line: &mut Vec<u8>, name: &Text) -> Result<(), AllocError>
+    ensures { OnOk result (line.new.items ≡ line.old.items ++ frame_line name.now) }
+{
+    line.extend_from_slice(b"limit Frame ")?;
+    line.extend_from_slice(name.as_str().as_bytes())
+}
+
+/// That no export function has the name.
+pub fn write_unknown(line: &mut Vec<u8>, name: &Text) -> Result<(), AllocError>
+    ensures { OnOk result (line.new.items ≡ line.old.items ++ unknown_text name.now) }
+{
+    line.extend_from_slice(b"unknown function ")?;
+    line.extend_from_slice(name.as_str().as_bytes())
+}
+
+/// The precondition that does not hold.
+pub fn write_unmet(line: &mut Vec<u8>, pre: &Pre) -> Result<(), AllocError>
+    ensures { OnOk result (line.new.items ≡ line.old.items ++ unmet_text pre.now) }
+{
+    line.extend_from_slice(b"precondition ")?;
+    write_pre(line, pre)
+}
+
 pub fn write_refused(line: &mut Vec<u8>, refused: &Refused) -> Result<(), AllocError>
     ensures { OnOk result (line.new.items ≡ line.old.items ++ refused_text refused.now) }
 {
     match refused {
         Refused::Unread(unread) => write_unread(line, *unread),
-        Refused::NoFunction(name) => {
-            line.extend_from_slice(b"unknown function ")?;
-            line.extend_from_slice(name.as_str().as_bytes())
-        }
+        Refused::NoFunction(name) => write_unknown(line, name),
         Refused::Limit(passed) => write_fun_limit(line, passed),
         Refused::Items => line.extend_from_slice(b"precondition items"),
-        Refused::Unmet(pre) => {
-            line.extend_from_slice(b"precondition ")?;
-            write_pre(line, pre)
-        }
+        Refused::Unmet(pre) => write_unmet(line, pre),
     }
 }

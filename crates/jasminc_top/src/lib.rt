@@ -3,14 +3,14 @@
 
 mod answer;
 mod check_lines;
-pub mod correctness;
+mod compile_lines;
 mod ct_lines;
 mod disasm_lines;
 mod interp_lines;
 mod lines;
 mod refusal;
 mod run;
-mod stage;
+mod run_lines;
 
 pub use refusal::{Refusal, Status};
 pub use run::{Done, jasminc_run};

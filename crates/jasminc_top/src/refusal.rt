@@ -2,25 +2,25 @@
 
 ghost use Rattle.std.specs.Prelude.{◌≡◌, ◌++◌, IfOk, OnOk, codes, decimal};
 ghost use Rattle.jasminc_top.specs.Refusals.{status_of_unread, status_of_refused, status_of_fault};
-ghost use Rattle.jasminc_top.specs.Refusals.{status_of_unsafe, status_of_breached, status_of};
+ghost use Rattle.jasminc_top.specs.Refusals.{status_of_unsafe, status_of_breached};
+ghost use Rattle.jasminc_top.specs.Refusals.{status_of_unmade, status_of_uncompiled};
+ghost use Rattle.jasminc_top.specs.Refusals.{status_of_uncalled, status_of};
 ghost use Rattle.jasminc_top.specs.Refusals.{cause_text, line_of};
 
 use crate::check_lines::write_unsafe;
+use crate::compile_lines::write_uncompiled;
 use crate::ct_lines::write_breached;
 use crate::disasm_lines::write_disasm_fault;
 use crate::interp_lines::write_refused;
-use crate::lines::{
-    write_alarm, write_lex_fault, write_limit, write_no_place, write_syntax_fault, write_type_fault,
-};
+use crate::run_lines::write_uncalled;
+use jasminc_called as calling;
 use jasminc_check as checking;
+use jasminc_compile as making;
+use jasminc_compile::Unmade;
 use jasminc_ct as judging;
 use jasminc_interp::Refused;
 use jasminc_source::Unread;
 use jz_disasm_text::Fault;
-use jz_first::{Text, TypeFault};
-use jz_grammar::{LexFault, SyntaxFault};
-use jz_pipeline::{Limit, NoPlace};
-use jz_safety::Alarm;
 use std::alloc::{AllocError, Global};
 
 /// How a command ends, by the program's exit status.
@@ -53,23 +53,7 @@ pub enum Refusal {
     ReadFault,
     /// The text is longer than 1,048,576 bytes.
     Source,
-    /// The text has no token at a place.
-    Lex(LexFault),
-    /// The tokens derive no program.
-    Parse(SyntaxFault),
-    /// A rule of typing fails.
-    Typing(TypeFault),
-    /// No function has this name.
-    NoFunction(Text),
-    /// A function passes a limit.
-    Limit(Limit),
-    /// A condition of safety is not given.
-    Alarm(Alarm),
-    /// A variable has no place.
-    NoPlace(NoPlace),
-    /// There is another number of items than of parameters.
-    Items,
-    /// A function of a text in the whole language is not run.
+    /// An export function of a text is not run.
     Interp(Refused),
     /// A text has no disassembly.
     Disasm(Fault),
@@ -77,6 +61,10 @@ pub enum Refusal {
     Check(checking::Refused),
     /// An export function of a text is not constant time.
     Ct(judging::Refused),
+    /// An export function of a text is not compiled.
+    Compile(making::Refused),
+    /// What an export function of a text is compiled to is not run, or nothing of it is shown.
+    Exec(calling::Refused),
 }
 
 fn status_of_unread(unread: Unread) -> Status
@@ -132,6 +120,40 @@ fn status_of_breached(refused: &judging::Refused) -> Status
     }
 }
 
+/// The status of a text of which a safe function is not compiled.
+fn status_of_unmade(unmade: &Unmade) -> Status
+    ensures { result ≡ status_of_unmade unmade.now }
+{
+    match unmade {
+        Unmade::NoOperations(_) => Status::Typing,
+        Unmade::Frame(_) => Status::Limit,
+        Unmade::NoPlace(_) => Status::NoPlace,
+    }
+}
+
+/// The status of a text whose functions are not all compiled.
+fn status_of_uncompiled(refused: &making::Refused) -> Status
+    ensures { result ≡ status_of_uncompiled refused.now }
+{
+    match refused {
+        making::Refused::Unread(unread) => status_of_unread(*unread),
+        making::Refused::Limit(_) => Status::Limit,
+        making::Refused::Alarm(_) => Status::Alarm,
+        making::Refused::Making(unmade) => status_of_unmade(unmade),
+    }
+}
+
+/// The status of a function that is not called.
+fn status_of_uncalled(refused: &calling::Refused) -> Status
+    ensures { result ≡ status_of_uncalled refused.now }
+{
+    match refused {
+        calling::Refused::Compile(uncompiled) => status_of_uncompiled(uncompiled),
+        calling::Refused::NoFunction(_) => Status::NoFunction,
+        calling::Refused::Items | calling::Refused::Unmet(_) => Status::Precondition,
+    }
+}
+
 impl Refusal {
     /// The status that it ends a command with.
     pub fn status(&self) -> Status
@@ -140,17 +162,13 @@ impl Refusal {
         match self {
             Refusal::Usage => Status::Usage,
             Refusal::ReadFault => Status::ReadFault,
-            Refusal::Source | Refusal::Limit(_) => Status::Limit,
-            Refusal::Lex(_) | Refusal::Parse(_) => Status::Syntax,
-            Refusal::Typing(_) => Status::Typing,
-            Refusal::NoFunction(_) => Status::NoFunction,
-            Refusal::Alarm(_) => Status::Alarm,
-            Refusal::NoPlace(_) => Status::NoPlace,
-            Refusal::Items => Status::Precondition,
+            Refusal::Source => Status::Limit,
             Refusal::Interp(refused) => status_of_refused(refused),
             Refusal::Disasm(fault) => status_of_fault(*fault),
             Refusal::Check(refused) => status_of_unsafe(refused),
             Refusal::Ct(refused) => status_of_breached(refused),
+            Refusal::Compile(refused) => status_of_uncompiled(refused),
+            Refusal::Exec(refused) => status_of_uncalled(refused),
         }
     }
 
@@ -162,21 +180,12 @@ impl Refusal {
             Refusal::Usage => line.extend_from_slice(b"usage: jasminc COMMAND ARGS"),
             Refusal::ReadFault => line.extend_from_slice(b"read fault"),
             Refusal::Source => line.extend_from_slice(b"limit Source"),
-            Refusal::Lex(fault) => write_lex_fault(line, *fault),
-            Refusal::Parse(fault) => write_syntax_fault(line, *fault),
-            Refusal::Typing(fault) => write_type_fault(line, *fault),
-            Refusal::NoFunction(name) => {
-                line.extend_from_slice(b"unknown function ")?;
-                line.extend_from_slice(name.as_str().as_bytes())
-            }
-            Refusal::Limit(limit) => write_limit(line, limit),
-            Refusal::Alarm(alarm) => write_alarm(line, alarm),
-            Refusal::NoPlace(refusal) => write_no_place(line, refusal),
-            Refusal::Items => line.extend_from_slice(b"precondition items"),
             Refusal::Interp(refused) => write_refused(line, refused),
             Refusal::Disasm(fault) => write_disasm_fault(line, *fault),
             Refusal::Check(refused) => write_unsafe(line, refused),
             Refusal::Ct(refused) => write_breached(line, refused),
+            Refusal::Compile(refused) => write_uncompiled(line, refused),
+            Refusal::Exec(refused) => write_uncalled(line, refused),
         }
     }
 

@@ -8,13 +8,13 @@ ghost use Rattle.jasminc_top.specs.Promises.{KeepsPromises};
 
 use crate::answer::{Reply, answer};
 use crate::refusal::{Refusal, Status};
-use jz_first::{Failure, Seq};
 use jz_io::{Sink, Source, write_all};
 use jz_listing::Compiled;
+use jz_tree::{Failure, Seq};
 use std::alloc::Global;
 
-/// How a command ended, and what this call compiled: in `compile` and `exec` at Ok and OutOfFuel
-/// each export function in the text's order, else nothing.
+/// How a command ended, and what this call compiled: in `compile`, `exec` and `leak` at Ok and
+/// OutOfFuel each export function in the text's order, else nothing.
 #[derive(Drop)]
 pub struct Done {
     pub status: Status,

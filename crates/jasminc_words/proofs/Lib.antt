@@ -1,3 +1,4 @@
 pub mod Adding
 pub mod NumbersFit
+pub mod Outcomes
 mod WordExamples

@@ -2,7 +2,7 @@
 use Rattle.std.proofs.Common.{◌≡◌, [], ◌∷◌, Some, None, refl, codes}
 use Rattle.clap.proofs.OnLiterals.{clap_on_literals}
 use Rattle.jz_items.specs.declared.item.Item.TheVariants.{Number}
-use Rattle.jasminc_words.specs.Wanted.{compile, exec, interp, disasm, check, ct, wanted_command}
+use Rattle.jasminc_words.specs.Wanted.{compile, exec, interp, leak, disasm, check, ct, gen, selfrun, wanted_command}
 
 pub a_file : wanted_command (codes "jasminc" ∷ codes "compile" ∷ codes "a" ∷ []) ≡ Some (compile (codes "a"))
 unfolding wanted_command clap_on_literals
@@ -37,3 +37,24 @@ pub no_fuel : wanted_command (codes "jasminc" ∷ codes "exec" ∷ codes "a" ∷
     ≡ Some (exec (record { file = codes "a"; fun = codes "f"; items = []; fuel = 1000000 }))
 unfolding wanted_command clap_on_literals
 no_fuel = refl
+
+pub a_leak : wanted_command (codes "jasminc" ∷ codes "leak" ∷ codes "a" ∷ codes "f" ∷ codes "2" ∷ codes "--fuel" ∷ codes "5" ∷ [])
+    ≡ Some (leak (record { file = codes "a"; fun = codes "f"; items = Number 2 ∷ []; fuel = 5 }))
+unfolding wanted_command clap_on_literals
+a_leak = refl
+
+pub a_program : wanted_command (codes "jasminc" ∷ codes "gen" ∷ codes "2147483647" ∷ codes "30000" ∷ []) ≡ Some (gen 2147483647 30000)
+unfolding wanted_command clap_on_literals
+a_program = refl
+
+pub too_large_a_seed : wanted_command (codes "jasminc" ∷ codes "gen" ∷ codes "2147483648" ∷ codes "1" ∷ []) ≡ None
+unfolding wanted_command clap_on_literals
+too_large_a_seed = refl
+
+pub too_large_a_size : wanted_command (codes "jasminc" ∷ codes "selfrun" ∷ codes "1" ∷ codes "30001" ∷ []) ≡ None
+unfolding wanted_command clap_on_literals
+too_large_a_size = refl
+
+pub a_run_of_its_own : wanted_command (codes "jasminc" ∷ codes "selfrun" ∷ codes "1" ∷ codes "0x8" ∷ codes "--fuel" ∷ codes "7" ∷ []) ≡ Some (selfrun 1 8 7)
+unfolding wanted_command clap_on_literals
+a_run_of_its_own = refl

@@ -44,6 +44,16 @@ run_app name =
     with_rule (with_rule (with_rule (with_rule (new_app name) (required_rule (codes "FILE")))
     (required_rule (codes "FUN"))) items_rule) fuel_rule
 
+-- the name, then `SEED SIZE`
+abbrev pub number_app : Text → App
+number_app name =
+    with_rule (with_rule (new_app name) (required_rule (codes "SEED")))
+    (required_rule (codes "SIZE"))
+
+-- `selfrun SEED SIZE`, and `--fuel N` among them
+abbrev pub selfrun_app : App
+selfrun_app = with_rule (number_app (codes "selfrun")) fuel_rule
+
 -- no help words are offered, and a subcommand has to be there
 abbrev pub bare_app : App
 bare_app = let a = new_app (codes "jasminc") in record a {
@@ -54,13 +64,18 @@ bare_app = let a = new_app (codes "jasminc") in record a {
   };
 }
 
--- the commands that read a file and run nothing stand beside `exec` and `interp`
+-- the commands that read a file and call nothing stand beside `exec`, `interp` and `leak`
 abbrev pub run_commands : App
 run_commands =
-    with_subcommand (with_subcommand (with_subcommand bare_app (file_app (codes "compile")).top)
-    (run_app (codes "exec")).top) (run_app (codes "interp")).top
+    with_subcommand (with_subcommand (with_subcommand (with_subcommand bare_app
+    (file_app (codes "compile")).top) (run_app (codes "exec")).top) (run_app (codes "interp")).top)
+    (run_app (codes "leak")).top
+
+abbrev pub file_commands : App
+file_commands =
+    with_subcommand (with_subcommand (with_subcommand run_commands (file_app (codes "disasm")).top)
+    (file_app (codes "check")).top) (file_app (codes "ct")).top
 
 abbrev pub jasminc_app : App
 jasminc_app =
-    with_subcommand (with_subcommand (with_subcommand run_commands (file_app (codes "disasm")).top)
-    (file_app (codes "check")).top) (file_app (codes "ct")).top
+    with_subcommand (with_subcommand file_commands (number_app (codes "gen")).top) selfrun_app.top

@@ -1,3 +1,4 @@
 pub mod Commands
 pub mod Wanted
+pub mod Inputs
 pub mod Matching

@@ -4,7 +4,7 @@ ghost use Rattle.std.specs.Prelude.{◌≡◌, [], IfOk};
 ghost use Rattle.clap.specs.Words.{subcommand_rows_of};
 ghost use Rattle.jasminc_words.specs.Commands.{IsArg, IsCommand, required_rule, items_rule};
 ghost use Rattle.jasminc_words.specs.Commands.{fuel_rule, file_app, run_app, bare_app};
-ghost use Rattle.jasminc_words.specs.Commands.{jasminc_app};
+ghost use Rattle.jasminc_words.specs.Commands.{number_app, selfrun_app, jasminc_app};
 ghost use Rattle.jasminc_words.specs.Wanted.{texts_of};
 ghost use Rattle.jasminc_words.specs.Matching.{Matches};
 
@@ -57,6 +57,21 @@ fn run<'a>(alloc: Global, name: &'a str) -> Result<Command<'a>, AllocError>
     with_items.arg(fuel(alloc))
 }
 
+/// A command that makes a program of a number.
+fn of_number<'a>(alloc: Global, name: &'a str) -> Result<Command<'a>, AllocError>
+    ensures { IfOk result (IsCommand (number_app name.entry.now)) }
+{
+    let with_seed = Command::new(alloc, name).arg(required(alloc, "SEED"))?;
+    with_seed.arg(required(alloc, "SIZE"))
+}
+
+fn selfrun<'a>(alloc: Global) -> Result<Command<'a>, AllocError>
+    ensures { IfOk result (IsCommand selfrun_app) }
+{
+    let with_numbers = of_number(alloc, "selfrun")?;
+    with_numbers.arg(fuel(alloc))
+}
+
 /// The program without its commands. It has no help words, neither as an option nor as a command.
 fn bare<'a>(alloc: Global) -> Command<'a>
     ensures { IsCommand bare_app result }
@@ -74,13 +89,15 @@ fn jasminc<'a>(alloc: Global) -> Result<Command<'a>, AllocError>
     let with_compile = top.subcommand(of_file(alloc, "compile")?)?;
     let with_exec = with_compile.subcommand(run(alloc, "exec")?)?;
     let with_interp = with_exec.subcommand(run(alloc, "interp")?)?;
-    let with_disasm = with_interp.subcommand(of_file(alloc, "disasm")?)?;
+    let with_leak = with_interp.subcommand(run(alloc, "leak")?)?;
+    let with_disasm = with_leak.subcommand(of_file(alloc, "disasm")?)?;
     let with_check = with_disasm.subcommand(of_file(alloc, "check")?)?;
-    with_check.subcommand(of_file(alloc, "ct")?)
+    let with_ct = with_check.subcommand(of_file(alloc, "ct")?)?;
+    let with_gen = with_ct.subcommand(of_number(alloc, "gen")?)?;
+    with_gen.subcommand(selfrun(alloc)?)
 }
 
 /// There are matches exactly where no step of the command's parse fails.
-#[tactic(auto, unfolding(crate::specs::Wanted::wanted_command), using(crate::proofs::Adding::none_or_empty, crate::proofs::Adding::none_or_some))]
 pub fn matches_of<'a>(alloc: Global, words: &'a [String]) -> Taken<'a>
     ensures { Matches (texts_of words.now) result }
 {

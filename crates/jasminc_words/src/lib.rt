@@ -3,8 +3,10 @@
 #![tactic(auto)]
 
 mod command;
+mod inputs;
 mod laws;
 mod request;
 
+pub use inputs::Input;
 pub use laws::numbers_fit;
 pub use request::{Call, Request, request_of};

@@ -3,18 +3,25 @@
 ghost use Rattle.std.specs.Prelude.{◌≡◌, IfOk, map};
 ghost use Rattle.std.specs.Option.{option_map};
 ghost use Rattle.clap.specs.Words.{rows_of, found_of, first_of, all_of, subcommand_rows_of};
-ghost use Rattle.jasminc_words.specs.Wanted.{compile, exec, interp, disasm, check, ct, file_of};
+ghost use Rattle.jasminc_words.specs.Wanted.{compile, exec, interp, leak, disasm, check, ct};
 ghost use Rattle.jasminc_words.specs.Wanted.{texts_of};
+ghost use Rattle.jasminc_words.specs.Wanted.{number_up_to, seed_in, size_in, gen_in, selfrun_in};
+ghost use Rattle.jasminc_words.specs.Inputs.{origin_of, input_of};
 ghost use Rattle.jasminc_words.specs.Wanted.{called_of, wanted_of, fuel_in, items_in, call_in};
 ghost use Rattle.jasminc_words.specs.Wanted.{file_in, wanted_in, wanted_command};
 
 use crate::command::{Taken, matches_of};
+use crate::inputs::Input;
 use clap::ArgMatches;
 use jz_data::Seq;
 use jz_items::{Item, items, number};
 use std::alloc::{AllocError, Global};
 
 const DEFAULT_FUEL: u64 = 1_000_000;
+
+const MOST_SEED: u32 = 0x7fff_ffff;
+
+const MOST_SIZE: u32 = 30_000;
 
 /// A function of a file, what it is run on, and how long.
 #[derive(Drop)]
@@ -34,23 +41,40 @@ pub enum Request<'a> {
     Exec(Call<'a>),
     /// A run of the source.
     Interp(Call<'a>),
+    /// What the compiled bytes show, by the source's leakage.
+    Leak(Call<'a>),
     Disasm { file: &'a str },
     /// Whether each export function is safe.
     Check { file: &'a str },
     /// Whether each export function is constant time.
     Ct { file: &'a str },
+    /// The program of a seed with so many statements.
+    Gen { seed: u32, size: u32 },
+    /// A run of the compiled bytes of that, with at most so many steps.
+    Selfrun { seed: u32, size: u32, fuel: u64 },
 }
 
 impl<'a> Request<'a> {
-    /// The file that the command reads.
-    pub fn file(&self) -> &'a str
-        ensures { result.now ≡ file_of (wanted_of self.now) }
+    /// What the command reads.
+    pub fn input(&self) -> Input<'a>
+        ensures { input_of result ≡ origin_of (wanted_of self.now) }
     {
         match self {
-            Request::Compile { file } | Request::Disasm { file } => file,
-            Request::Check { file } | Request::Ct { file } => file,
-            Request::Exec(call) => call.file,
-            Request::Interp(call) => call.file,
+            Request::Compile { file } => Input::File(file),
+            Request::Exec(call) => Input::File(call.file),
+            Request::Interp(call) => Input::File(call.file),
+            Request::Leak(call) => Input::File(call.file),
+            Request::Disasm { file } => Input::File(file),
+            Request::Check { file } => Input::File(file),
+            Request::Ct { file } => Input::File(file),
+            Request::Gen { seed, size } => Input::Program {
+                seed: *seed,
+                size: *size,
+            },
+            Request::Selfrun { seed, size, .. } => Input::Program {
+                seed: *seed,
+                size: *size,
+            },
         }
     }
 }
@@ -148,6 +172,19 @@ fn interp_request<'a>(
     }
 }
 
+fn leak_request<'a>(
+    alloc: Global,
+    inner: &ArgMatches<'a>,
+) -> Result<Option<Request<'a>>, AllocError>
+    ensures { IfOk result (λ request. option_map wanted_of request
+        ≡ option_map leak (call_in (rows_of (found_of inner.now)))) }
+{
+    match call_in(alloc, inner)? {
+        None => Ok(None),
+        Some(call) => Ok(Some(Request::Leak(call))),
+    }
+}
+
 fn disasm_request<'a>(inner: &ArgMatches<'a>) -> Option<Request<'a>>
     ensures { option_map wanted_of result
         ≡ option_map disasm (file_in (rows_of (found_of inner.now))) }
@@ -172,6 +209,49 @@ fn ct_request<'a>(inner: &ArgMatches<'a>) -> Option<Request<'a>>
     Some(Request::Ct { file })
 }
 
+/// The number that a word is, if it is at most so large.
+fn number_up_to(word: &str, most: u32) -> Option<u32>
+    ensures { result ≡ number_up_to most word.now }
+{
+    let number = number(word)?;
+    if number <= u64::from(most) {
+        Some(number as u32)
+    } else {
+        None
+    }
+}
+
+fn seed_in(inner: &ArgMatches<'_>) -> Option<u32>
+    ensures { result ≡ seed_in (rows_of (found_of inner.now)) }
+{
+    let word = value(inner, "SEED")?;
+    number_up_to(word, MOST_SEED)
+}
+
+fn size_in(inner: &ArgMatches<'_>) -> Option<u32>
+    ensures { result ≡ size_in (rows_of (found_of inner.now)) }
+{
+    let word = value(inner, "SIZE")?;
+    number_up_to(word, MOST_SIZE)
+}
+
+fn gen_request<'a>(inner: &ArgMatches<'a>) -> Option<Request<'a>>
+    ensures { option_map wanted_of result ≡ gen_in (rows_of (found_of inner.now)) }
+{
+    let seed = seed_in(inner)?;
+    let size = size_in(inner)?;
+    Some(Request::Gen { seed, size })
+}
+
+fn selfrun_request<'a>(inner: &ArgMatches<'a>) -> Option<Request<'a>>
+    ensures { option_map wanted_of result ≡ selfrun_in (rows_of (found_of inner.now)) }
+{
+    let seed = seed_in(inner)?;
+    let size = size_in(inner)?;
+    let fuel = fuel_in(inner)?;
+    Some(Request::Selfrun { seed, size, fuel })
+}
+
 /// What matches ask for.
 fn asked<'a>(alloc: Global, matches: &ArgMatches<'a>) -> Result<Option<Request<'a>>, AllocError>
     ensures { IfOk result (λ request. option_map wanted_of request
@@ -181,9 +261,12 @@ fn asked<'a>(alloc: Global, matches: &ArgMatches<'a>) -> Result<Option<Request<'
         Some(("compile", inner)) => Ok(compile_request(inner)),
         Some(("exec", inner)) => exec_request(alloc, inner),
         Some(("interp", inner)) => interp_request(alloc, inner),
+        Some(("leak", inner)) => leak_request(alloc, inner),
         Some(("disasm", inner)) => Ok(disasm_request(inner)),
         Some(("check", inner)) => Ok(check_request(inner)),
         Some(("ct", inner)) => Ok(ct_request(inner)),
+        Some(("gen", inner)) => Ok(gen_request(inner)),
+        Some(("selfrun", inner)) => Ok(selfrun_request(inner)),
         _ => Ok(None),
     }
 }

@@ -19,8 +19,8 @@ use Rattle.jz_never_stuck.specs.Safety.{HasNoAlarm, SharesHead}
 use Rattle.jz_expanded_heads.proofs.Heads.{heads_are_fine}
 use Rattle.jz_safe.proofs.Alarms.{no_alarm}
 use Rattle.jz_safe_expansions.proofs.Whole.{source_never}
+use Rattle.jasminc_expansions.proofs.Typing.{text_text}
 use Rattle.jasminc_check.specs.Safety.{IsSafe, SafeIfExported, SafeLine, AreSafe}
-use Rattle.jasminc_check.proofs.FirstCauses.{text_text}
 use Rattle.jz_checked.specs.CheckedLaws.{IsNeverStuck, SafeIsNeverStuck, CheckedIsNeverStuck}
 
 module _ (p : Program) (f : Fun) (count : ℕ) (typed : IsTypedProgram p) (text : IsText p) (has : Contains p.funs f) (exported : is_exported f.kind ≡ true) (s : IsSafe p f count) where

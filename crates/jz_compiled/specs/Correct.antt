@@ -12,7 +12,7 @@ use Rattle.jz_inline.specs.Functions.{own_names}
 use Rattle.jz_listing.specs.declared.compiled.Compiled.{Compiled}
 use Rattle.jz_correct.specs.Registers.{argument_registers, result_registers}
 use Rattle.jz_correct.specs.Frames.{saved_of}
-use Rattle.jz_correct.specs.Correctness.{AreSpelled}
+use Rattle.jz_correct.specs.Assembled.{AreSpelled}
 use Rattle.jz_compiled.specs.Layout.{layout_of, frame_bytes}
 use Rattle.jz_compiled.specs.Lines.{AreArgumentLines, AreResultLines, listed_preconditions}
 use Rattle.jz_compiled.specs.Showing.{CasesStayIn, saving_accesses}

@@ -13,8 +13,7 @@ use Rattle.jz_listing.specs.declared.compiled.Arg.{Arg}
 use Rattle.jz_listing.specs.declared.compiled.Compiled.{Compiled}
 use Rattle.x64_machine.specs.Steps.{Config, steps_of}
 use Rattle.jz_correct.specs.Starts.{IsStart}
-use Rattle.jz_correct.specs.Agreement.{NeverFaults, EndsWith}
-use Rattle.jz_correct.specs.Correctness.{step_bound}
+use Rattle.jz_correct.specs.Agreement.{NeverFaults, EndsWith, step_bound}
 
 -- the values of words, by the sizes of the lines
 abbrev pub values_of : List Arg → List ℕ → List Value

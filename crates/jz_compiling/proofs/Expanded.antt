@@ -61,7 +61,7 @@ module _ (g : Fun) (home : Homes) (differ : Differ (variables_of g)) (are : AreD
   same_words : (k : Kind) (z y : Size) → k ≡ kind.Word z → k ≡ kind.Word y → z ≡ y
   same_words k z y e h = let s : kind.Word z ≡ kind.Word y = sym e ∙ h in cc
 
-  param_sizes : (rs : List Reg) (ps : List Param) (args : List Arg) → ((q : Param) → Contains ps q → Contains (variables_of g) q.var) → All (λ (q : Param). (ref_of q.var).cell ≡ None) ps → AreArgumentLines rs ps args → HaveSizes home (map (λ q. q.var) ps) args
+  pub param_sizes : (rs : List Reg) (ps : List Param) (args : List Arg) → ((q : Param) → Contains ps q → Contains (variables_of g) q.var) → All (λ (q : Param). (ref_of q.var).cell ≡ None) ps → AreArgumentLines rs ps args → HaveSizes home (map (λ q. q.var) ps) args
   param_sizes rs [] [] among whole lines = tt
   param_sizes [] [] (a ∷ args) among whole lines = absurd lines
   param_sizes (r ∷ rs) [] (a ∷ args) among whole lines = absurd lines
@@ -72,7 +72,7 @@ module _ (g : Fun) (home : Homes) (differ : Differ (variables_of g)) (are : AreD
     param_sizes rs ps args (λ u i. among u (suc i.0, omega (arith, i.1), i.2)) (All-tail (λ (u : Param). (ref_of u.var).cell ≡ None) q ps whole) lines.1,
   )
 
-  result_sizes : (rs : List Reg) (xs : List Var) (ts : List Ret) (rets : List Arg) → All (IsUsed g) xs → AllZip (λ x t. (ref_of x).kind ≡ declared_kind t.decl) xs ts → AreResultLines rs xs ts rets → HaveSizes home xs rets
+  pub result_sizes : (rs : List Reg) (xs : List Var) (ts : List Ret) (rets : List Arg) → All (IsUsed g) xs → AllZip (λ x t. (ref_of x).kind ≡ declared_kind t.decl) xs ts → AreResultLines rs xs ts rets → HaveSizes home xs rets
   result_sizes rs [] [] [] whole kinds lines = tt
   result_sizes [] [] [] (a ∷ rets) whole kinds lines = absurd lines
   result_sizes (r ∷ rs) [] [] (a ∷ rets) whole kinds lines = absurd lines
@@ -90,33 +90,33 @@ module _ (g : Fun) (home : Homes) (differ : Differ (variables_of g)) (are : AreD
 behind_one : (x : Var) (xs : List Var) (y : Var) → Contains xs y → Contains (x ∷ xs) y
 behind_one x xs y h = (suc h.0, omega (arith, h.1), h.2)
 
-first_of : (ps : List Param) (vs : List Var) (k : ℕ) (q : Param) → k < length ps → get_or ps k q ≡ q → Contains (map (λ u. u.var) ps ++ vs) q.var
+pub first_of : (ps : List Param) (vs : List Var) (k : ℕ) (q : Param) → k < length ps → get_or ps k q ≡ q → Contains (map (λ u. u.var) ps ++ vs) q.var
 first_of [] vs k q lt e = absurd (omega (arith, lt))
 first_of (p ∷ ps) vs zero q lt e = (0, omega arith, ap (λ (u : Param). u.var) e)
 first_of (p ∷ ps) vs (suc k) q lt e = behind_one p.var (map (λ u. u.var) ps ++ vs) q.var (first_of ps vs k q (omega (arith, lt)) e)
 
 module _ (p : Program) (f g : Fun) (k : Change) (c : Compiled) (of_program : Contains p.funs f) (head : KeepsHead f g) (expansion : IsExpandedTo p f g k) (m : IsMadeOf g k c) (plain : HasPlainHead g) (safe : IsNeverStuck f g c) where
-  declared : IsOfDeclarations g (table_of g)
+  pub declared : IsOfDeclarations g (table_of g)
   declared = of_declarations g plain.differ
 
   homing_is : IsHoming (homing.frame_of m.lowered.stack) (homes_for g)
   homing_is = subst (λ s. IsHoming (homing.frame_of s) (homes_for g)) (sym m.is_lowered.stack) (table_is_homing (table_of g) (all_entered no_homes (variables_of g) none_entered))
 
-  listed : IsListedAs f c
+  pub listed : IsListedAs f c
   listed = record {
     args = subst (λ ps. AreArgumentLines argument_registers ps c.args) head.params m.args;
     rets = subst (λ xs. AreResultLines result_registers xs f.rets c.rets) head.result (subst (λ ts. AreResultLines result_registers g.result ts c.rets) head.rets m.rets);
     pre = m.pre ∙ ap (λ ps. listed_preconditions (record g { params = ps })) head.params ∙ ap (λ ns. listed_preconditions (record g { params = f.params; notes = ns })) head.notes;
   }
 
-  lowering : IsLoweredTo g (homes_for g) m.lowered.ir m.lowered.stack (change_of m.lowered.change)
+  pub lowering : IsLoweredTo g (homes_for g) m.lowered.ir m.lowered.stack (change_of m.lowered.change)
   lowering = record {
     homing = subst (λ fr. IsHoming fr (homes_for g)) (frames_same m.lowered.stack) homing_is;
     made = m.is_lowered.lowered;
     carries = subst (λ (fr : Frame). Carries (beside (homes_for g)) (λ s n. Goes statements.source (plain_body g) n s) (λ σ n. Goes (variables fr) (ir.body_of m.lowered.ir.body) n σ) (change_of m.lowered.change)) (frames_same m.lowered.stack) m.keeps;
   }
 
-  pub made : IsMade p f c
+  abbrev pub made : IsMade p f c
   made = record {
     of_program = of_program;
     listed = listed;

@@ -1,6 +1,7 @@
 //! From the expansion of an export function to its bytes and its transformer.
 
-ghost use Rattle.std.specs.Prelude.{◌≡◌, IfOk};
+ghost use Rattle.std.specs.Prelude.{◌≡◌, IfOk, IfErr};
+ghost use Rattle.jz_data.specs.Failures.{IfRefused};
 ghost use Rattle.jz_change.specs.Composing.{compose_of};
 ghost use Rattle.jz_change.specs.Flattening.{flatten_of};
 ghost use Rattle.jz_change.specs.Views.{change_of};
@@ -8,6 +9,7 @@ ghost use Rattle.jz_lowering.specs.Functions.{IsFunctionLowered, KeepsRuns};
 ghost use Rattle.jz_codable.specs.Ready.{IsReady};
 ghost use Rattle.jz_code.specs.Made.{IsCodeOf};
 ghost use Rattle.jz_compiling.specs.Made.{IsMadeOf};
+ghost use Rattle.jz_compiling.specs.Refused.{HasNoHead, IsNotCompiled};
 ghost use Rattle.jz_compiling.specs.InnerParts.{IsHeadOf, IsPutTogether};
 
 use jz_change::{Change, compose, flatten};
@@ -48,7 +50,8 @@ struct Head {
 
 /// The lines for callers, or the place of what has none.
 fn head_of(alloc: Global, fun: &Fun) -> Result<Head, Failure<Span>>
-    ensures { IfOk result (IsHeadOf fun.now) }
+    ensures lines { IfOk result (IsHeadOf fun.now) }
+    ensures refused { IfErr result (λ e. IfRefused e (HasNoHead fun.now)) }
 {
     let args = argument_lines(alloc, &fun.params)?;
     let rets = result_lines(alloc, fun.span, &fun.result, &fun.rets)?;
@@ -57,7 +60,8 @@ fn head_of(alloc: Global, fun: &Fun) -> Result<Head, Failure<Span>>
 }
 
 fn headed(alloc: Global, fun: &Fun) -> Result<Head, Failure<NotCompiled>>
-    ensures { IfOk result (IsHeadOf fun.now) }
+    ensures lines { IfOk result (IsHeadOf fun.now) }
+    ensures refused { IfErr result (λ e. IfRefused e (IsNotCompiled fun.now)) }
 {
     match head_of(alloc, fun) {
         Ok(head) => Ok(head),
@@ -70,6 +74,7 @@ fn lowered(alloc: Global, fun: &Fun) -> Result<LoweredFun, Failure<NotCompiled>>
     ensures made { IfOk result (λ l. IsFunctionLowered fun.now l (change_of l.change)) }
     ensures law { IfOk result (λ l. KeepsRuns fun.now l (change_of l.change)) }
     ensures ready { IfOk result (λ l. IsReady l.ir) }
+    ensures refused { IfErr result (λ e. IfRefused e (IsNotCompiled fun.now)) }
 {
     match lower(alloc, fun) {
         Ok(lowered) => Ok(lowered),
@@ -78,9 +83,16 @@ fn lowered(alloc: Global, fun: &Fun) -> Result<LoweredFun, Failure<NotCompiled>>
     }
 }
 
-fn coded(alloc: Global, lowered: &LoweredFun) -> Result<MachineCode, Failure<NotCompiled>>
-    requires { IsReady lowered.now.ir }
-    ensures { IfOk result (IsCodeOf lowered.now.ir lowered.now.stack) }
+/// The bytes of the function, of which that is the function over variables.
+fn coded(
+    alloc: Global,
+    fun: &Fun,
+    lowered: &LoweredFun,
+) -> Result<MachineCode, Failure<NotCompiled>>
+    requires made { IsFunctionLowered fun.now lowered.now (change_of lowered.now.change) }
+    requires ready { IsReady lowered.now.ir }
+    ensures code { IfOk result (IsCodeOf lowered.now.ir lowered.now.stack) }
+    ensures refused { IfErr result (λ e. IfRefused e (IsNotCompiled fun.now)) }
 {
     match machine_code(alloc, &lowered.ir, lowered.stack.as_slice()) {
         Ok(code) => Ok(code),
@@ -140,19 +152,22 @@ fn put_together(
 }
 
 /// The bytes and the transformer of an export function whose expansion this is, with what that made
-/// of its leaks; `ct` is what the listing says about constant time. The stack grows with the
-/// nesting of the text.
+/// of its leaks; `ct` is what the listing says about constant time. Refused where its stack
+/// variables take more than 65,536 bytes, and else where first fit leaves a variable without a
+/// place; what has no operations, no line for callers or a wrong annotation is refused before. The
+/// stack grows with the nesting of the text.
 pub fn compile_expanded(
     alloc: Global,
     fun: &Fun,
     change: Change,
     ct: Ct,
 ) -> Result<Compiled, Failure<NotCompiled>>
-    ensures { IfOk result (λ c. IsMadeOf fun.now (change_of change) c × (c.ct ≡ ct)) }
+    ensures made { IfOk result (λ c. IsMadeOf fun.now (change_of change) c × (c.ct ≡ ct)) }
+    ensures refused { IfErr result (λ e. IfRefused e (IsNotCompiled fun.now)) }
 {
     let head = headed(alloc, fun)?;
     let lowered = lowered(alloc, fun)?;
-    let code = coded(alloc, &lowered)?;
+    let code = coded(alloc, fun, &lowered)?;
     let LoweredFun {
         ir: _,
         stack: _,

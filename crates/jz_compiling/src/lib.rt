@@ -5,4 +5,4 @@ mod compiling;
 mod laws;
 
 pub use compiling::{NotCompiled, compile_expanded};
-pub use laws::an_expanded_function_carries_over;
+pub use laws::{an_expanded_function_carries_over, what_is_compiled_has_places};

@@ -1,12 +1,10 @@
 -- The size of a frame.
 use Rattle.std.proofs.Common.{◌≡◌, ℕ, ◌+◌, ◌-◌, ◌*◌, ◌/◌, ◌%◌, ◌<◌, ◌≤◌, false, List, [], ◌∷◌, refl, ap, arith, if◌then◌else◌, ◌==◌}
-use Rattle.std.specs.Prelude.{map}
 use Rattle.std.proofs.lemmas.Bool.Decides.{nat_tests}
-use Rattle.jz_first.specs.Memory.{Memory}
-use Rattle.jz_first.specs.Size.TheVariants.{S8, S16, S64}
+use Rattle.x64_insn.specs.Memory.{Memory}
 use Rattle.x64_insn.specs.declared.types.Reg.TheVariants as reg
 use Rattle.jz_listing.specs.declared.compiled.Compiled.{Compiled}
-use Rattle.jz_correct.specs.Frames.{StackVariable, Place, places_from, saved_slots, end_from, frame_end, frame_size, preserved_registers}
+use Rattle.jz_correct.specs.Frames.{saved_slots, frame_end, frame_size, preserved_registers}
 use Rattle.jz_correct.specs.Starts.{IsStart}
 use Rattle.x64_machine.specs.Steps.{Config}
 
@@ -47,20 +45,7 @@ six_registers = refl
 byte_and_register : frame_size (frame_end 1 (reg.Rbx ∷ [])) ≡ 24
 byte_and_register = refl
 
--- ---- a layout: one byte, a cell of 64 bits, three of 16, and two preserved registers above them
-abbrev three : List StackVariable
-three =
-    record { name = []; cell = S8; count = 1 } ∷ record { name = []; cell = S64; count = 1 } ∷ record { name = []; cell = S16; count = 3 } ∷ []
-
-abbrev offset_of : Place → ℕ
-offset_of p = p.offset
-
-three_places : map offset_of (places_from 0 three) ≡ 0 ∷ 8 ∷ 16 ∷ []
-three_places = refl
-
-three_end : end_from 0 three ≡ 22
-three_end = refl
-
+-- ---- two preserved registers above variables that end at 22
 three_slots : saved_slots 22 (reg.Rbx ∷ reg.R12 ∷ []) ≡ (reg.Rbx, 24) ∷ (reg.R12, 32) ∷ []
 three_slots = refl
 

@@ -1,9 +1,7 @@
--- The frame of a function: the places of its stack variables, the preserved registers that its code
--- names, and its size.
-use Rattle.std.specs.Prelude.{ℕ, ◌+◌, ◌*◌, ◌-◌, ◌/◌, Bool, false, ◌||◌, ◌==◌, if◌then◌else◌, Option, Some, None, ℤ, pos, ◌-ℤ◌, List, [], ◌∷◌, ◌++◌, length}
+-- What stands in a frame beside the places of variables: the slots of the preserved registers that
+-- the code names; and its size.
+use Rattle.std.specs.Prelude.{ℕ, ◌+◌, ◌*◌, ◌-◌, ◌/◌, Bool, false, ◌||◌, ◌==◌, if◌then◌else◌, Option, Some, None, ℤ, pos, ◌-ℤ◌, List, [], ◌∷◌, length}
 use Rattle.std.specs.List.{list_any, filter}
-use Rattle.jz_first.specs.Size.{Size}
-use Rattle.jz_first.specs.Sizes.{bytes_of}
 use Rattle.x64_insn.specs.declared.types.Reg.{Reg}
 use Rattle.x64_insn.specs.declared.types.Reg.TheVariants as reg
 use Rattle.x64_insn.specs.declared.types.Base.{Base}
@@ -14,72 +12,10 @@ use Rattle.x64_insn.specs.declared.types.Operand.TheVariants as operand
 use Rattle.x64_insn.specs.declared.types.Insn.{Insn}
 use Rattle.x64_insn.specs.declared.types.Insn.TheVariants as insn
 use Rattle.x64_insn.specs.Table.{number_of}
-use Rattle.jz_first.specs.declared.tree.Storage.{Storage}
-use Rattle.jz_first.specs.declared.tree.Storage.TheVariants as storage
-use Rattle.jz_first.specs.declared.tree.Decl.{Decl}
-use Rattle.jz_first.specs.declared.tree.Var.{Var}
-use Rattle.jz_first.specs.declared.tree.Fun.{Fun}
-
--- ---- the layout
-
--- a stack variable: its name, the size of its cells, and how many it has
-pub record StackVariable : Type 0 where
-  pub name : List ℕ
-  pub cell : Size
-  pub count : ℕ
-
--- a place in the frame, counted from the stack pointer behind the prologue upwards
-pub record Place : Type 0 where
-  pub of : StackVariable
-  pub offset : ℕ
-
--- what a declaration of this storage keeps in the frame
-abbrev pub stacked_by : Storage → Var → List StackVariable
-stacked_by storage.Reg v = []
-
--- what a variable keeps there by its declaration
-abbrev pub stacked_if : Option Decl → Var → List StackVariable
-stacked_if None v = []
-stacked_if (Some d) v = stacked_by d.storage v
-
--- what declared variables keep there, in the order of their declarations
-abbrev pub stacked_among : List Var → List StackVariable
-stacked_among [] = []
-stacked_among (v ∷ vs) = stacked_if v.decl v ++ stacked_among vs
-
--- the stack variables of a function
-abbrev pub stack_variables_of : Fun → List StackVariable
-stack_variables_of f = stacked_among f.vars
 
 -- a number, or the least multiple of k above it
 abbrev pub rounded_up : ℕ → ℕ → ℕ
 rounded_up k n = (n + (k - 1)) / k * k
-
--- where cells begin behind an end, and where they end
-abbrev pub begins_at : ℕ → StackVariable → ℕ
-begins_at end s = rounded_up (bytes_of s.cell) end
-
-abbrev pub ends_at : ℕ → StackVariable → ℕ
-ends_at end s = begins_at end s + s.count * bytes_of s.cell
-
--- stack variables one above the other, each at the next multiple of its cells' size
-abbrev pub places_from : ℕ → List StackVariable → List Place
-places_from end [] = []
-places_from end (s ∷ ss) =
-    record { of = s; offset = begins_at end s } ∷ places_from (ends_at end s) ss
-
--- where the last of them ends
-abbrev pub end_from : ℕ → List StackVariable → ℕ
-end_from end [] = end
-end_from end (s ∷ ss) = end_from (ends_at end s) ss
-
--- the places of a function's stack variables, from the stack pointer on
-abbrev pub layout_of : Fun → List Place
-layout_of f = places_from 0 (stack_variables_of f)
-
--- where they end
-abbrev pub layout_end : Fun → ℕ
-layout_end f = end_from 0 (stack_variables_of f)
 
 -- ---- the preserved registers
 
@@ -157,7 +93,3 @@ frame_end end (r ∷ rs) = rounded_up 8 end + 8 * length (r ∷ rs)
 -- 16
 abbrev pub frame_size : ℕ → ℕ
 frame_size end = if end == 0 then 0 else 16 * ((end + 7) / 16) + 8
-
--- the frame of a function whose code is these instructions
-abbrev pub frame_of : Fun → List Insn → ℕ
-frame_of f code = frame_size (frame_end (layout_end f) (saved_of code))

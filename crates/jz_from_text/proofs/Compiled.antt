@@ -1,40 +1,29 @@
 -- From the calls of the compiler to correct compilation.
-use Rattle.std.proofs.Common.{◌≡◌, ℕ, ◌+◌, true, List, [], ◌∷◌, ◌++◌, map, pos, ◌-ℤ◌, All, Contains, Some, refl, sym, ap, ◌∙◌, subst}
-use Rattle.std.specs.Prelude.{slice_get}
-use Rattle.std.proofs.lemmas.List.Elements.{All-contains, Contains-get_or}
-use Rattle.std.proofs.lemmas.Option.{slice_get_within, get_or_from_slice_get}
+use Rattle.std.proofs.Common.{◌≡◌, ℕ, ◌+◌, true, List, [], ◌∷◌, ◌++◌, map, pos, ◌-ℤ◌, All, refl, sym, ap, ◌∙◌, subst}
+use Rattle.std.proofs.lemmas.List.Elements.{All-contains}
 use Rattle.x64_insn.specs.declared.types.Insn.{Insn}
 use Rattle.x64_insn.specs.declared.types.Reg.{Reg}
 use Rattle.jz_leak.specs.declared.transformer.Form.TheVariants as form
 use Rattle.jz_leak.specs.declared.transformer.Out.TheVariants as out
 use Rattle.jz_leak.specs.declared.transformer.Transformer.{Transformer}
-use Rattle.jz_leak.specs.RunLeaks.{Leak}
 use Rattle.jz_tree.specs.declared.program.Fun.{Fun}
 use Rattle.jz_tree.specs.declared.program.Program.{Program}
 use Rattle.jz_type_names.specs.Scopes.{variables_of}
 use Rattle.jz_type_rows.specs.Exports.{is_exported}
 use Rattle.jz_texts.proofs.Declaring.{declarations_law}
-use Rattle.jz_runs.specs.Rules.{Outcome}
-use Rattle.jz_meaning.specs.declared.value.Stuck.{Stuck}
-use Rattle.jz_meaning.specs.Runs.{Returned, body_of}
-use Rattle.jz_operations.proofs.Somes.{same_some}
-use Rattle.jz_change.specs.Changes.{Change}
+use Rattle.jz_meaning.specs.Runs.{body_of}
 use Rattle.jz_change.specs.Views.{change_of}
-use Rattle.jz_pass.specs.Laws.{Carries, Follows, has_ended, was_cut, was_stuck}
-use Rattle.jz_inline.specs.Functions.{own_names, Given, runs_of, body_runs}
+use Rattle.jz_inline.specs.Functions.{own_names}
 use Rattle.jz_inlining.specs.Inlined.{inlined_function}
 use Rattle.jz_bodies.proofs.Whole.{IsKnown, all_known}
 use Rattle.jz_distinct.proofs.Framed.{typed_differ}
-use Rattle.jz_function_runs.specs.FunctionRuns.{plain_body, alike_where}
 use Rattle.jz_declared.specs.Declared.{Differ, stack_of}
 use Rattle.jz_declared.proofs.Places.{of_declarations}
 use Rattle.jz_expansion.specs.declared.expanded.Expanded.{Expanded}
-use Rattle.jz_expansion.specs.Expansions.{IsExpansion}
-use Rattle.jz_expansion.specs.Expanding.{IsInputOf}
 use Rattle.jz_listing.specs.declared.compiled.Compiled.{Compiled}
 use Rattle.jz_correct.specs.Frames.{rounded_up, saved_slots, slots_from, frame_end, frame_size}
 use Rattle.jz_correct.specs.Registers.{argument_registers, result_registers}
-use Rattle.jz_correct.specs.Correctness as correct
+use Rattle.jz_correct.specs.Assembled as correct
 use Rattle.x64_assemble.specs.Assembling as assembling
 use Rattle.jz_stack.specs.Laying as laying
 use Rattle.jz_stack.specs.Framed.{slot_outs}
@@ -46,28 +35,13 @@ use Rattle.jz_compiled.specs.Matching.{CarriesOver}
 use Rattle.jz_compiled.specs.Correct.{IsCompilation}
 use Rattle.jz_signature.specs.Laws.{stacked_as, IsUnstacked}
 use Rattle.jz_signature.proofs.StackLemmas.{stack_is}
-use Rattle.jz_joined.specs.Making.{IsAsked, IsExpandedTo}
+use Rattle.jz_joined.specs.Making.{IsExpandedTo, IsMade}
+use Rattle.jz_expanded_runs.proofs.Followed.{expansions_keep_runs}
 use Rattle.jz_compiling.specs.Made.{KeepsHead, HasPlainHead}
-use Rattle.jz_compiling.proofs.Expanded.{carries_over}
+use Rattle.jz_compiling.proofs.Expanded.{made, carries_over}
 use Rattle.jz_from_text.specs.Laws.{IsCompiledFrom}
 use Rattle.jz_from_text.proofs.Head.{plain_head}
 use Rattle.jz_from_text.proofs.Parameters.{unstacked}
-
--- ---- the runs of the expansion, by what is asked of an input here
-other_follows : (P Q : Given → Type 0) (k : Change) (Comes : Outcome Returned Stuck Leak → Type 0) (o : Outcome Returned Stuck Leak) → Follows (alike_where P) k Comes o → Follows (alike_where Q) k Comes o
-other_follows P Q k Comes o (has_ended v2 same fits comes) = has_ended v2 same fits comes
-other_follows P Q k Comes o (was_cut fits comes) = was_cut fits comes
-other_follows P Q k Comes o (was_stuck h) = was_stuck h
-
-module _ (p : Program) (f g : Fun) (k : Change) where
-  asked_carries : Carries (alike_where (IsInputOf p f)) (runs_of p f) (body_runs (plain_body g) g) k → Carries (alike_where (IsAsked p f)) (runs_of p f) (body_runs (plain_body g) g) k
-  asked_carries h = record {
-    forth = λ i j n o starts run. other_follows (IsInputOf p f) (IsAsked p f) k (body_runs (plain_body g) g j n) o (h.forth i j n o (starts.0, record { words = starts.1.0; memory = starts.1.1 }) run);
-    back = λ i j n w starts run. h.back i j n w (starts.0, record { words = starts.1.0; memory = starts.1.1 }) run;
-  }
-
-contained : (fs : List Fun) (place : ℕ) (f : Fun) → slice_get fs place ≡ Some f → Contains fs f
-contained fs place f e = subst (Contains fs) (get_or_from_slice_get fs place f f e) (Contains-get_or fs place f (slice_get_within fs place f e))
 
 -- ---- the frame
 end_same : (end : ℕ) (vs : List StackVariable) → laying.end_from end (map stacked_as vs) ≡ layout.end_from end vs
@@ -83,50 +57,44 @@ spelled_same [] bytes h = h
 spelled_same (i ∷ is) bytes h = (h.0, h.1, h.2, h.3, spelled_same is h.1 h.4)
 
 -- ---- the whole
-module _ (p : Program) (place : ℕ) (f : Fun) (e : Expanded) (c : Compiled) (h : IsCompiledFrom p place f e c) where
-  among : Contains p.funs f
-  among = contained p.funs place f h.there
-
-  same : h.expanded.source ≡ f
-  same = same_some h.expanded.source f (sym h.expanded.there ∙ h.there)
-
-  expansion : IsExpansion p f e.fun (change_of e.change) e.count
-  expansion = subst (λ s. IsExpansion p s e.fun (change_of e.change) e.count) same h.expanded.expansion
-
+module _ (p : Program) (f : Fun) (e : Expanded) (c : Compiled) (h : IsCompiledFrom p f e c) where
   known : IsKnown p f
-  known = All-contains (IsKnown p) p.funs f (all_known p h.typed h.text) among
+  known = All-contains (IsKnown p) p.funs f (all_known p h.typed h.text) h.there
 
   differ : Differ (variables_of (inlined_function p f))
-  differ = typed_differ p f (declarations_law p h.typed h.text) h.text among
+  differ = typed_differ p f (declarations_law p h.typed h.text) h.text h.there
 
-  head : KeepsHead f e.fun
+  pub head : KeepsHead f e.fun
   head = record {
-    notes = ap (λ (x : Fun). x.notes) expansion.function ∙ expansion.head.notes;
-    name = ap (λ (x : Fun). x.name) expansion.function ∙ expansion.head.name;
-    params = ap (λ (x : Fun). x.params) expansion.function ∙ expansion.head.params;
-    rets = ap (λ (x : Fun). x.rets) expansion.function ∙ expansion.head.rets;
-    result = ap (λ (x : Fun). x.result) expansion.function ∙ expansion.head.result;
+    notes = ap (λ (x : Fun). x.notes) h.expansion.function ∙ h.expansion.head.notes;
+    name = ap (λ (x : Fun). x.name) h.expansion.function ∙ h.expansion.head.name;
+    params = ap (λ (x : Fun). x.params) h.expansion.function ∙ h.expansion.head.params;
+    rets = ap (λ (x : Fun). x.rets) h.expansion.function ∙ h.expansion.head.rets;
+    result = ap (λ (x : Fun). x.result) h.expansion.function ∙ h.expansion.head.result;
   }
 
-  expands : IsExpandedTo p f e.fun (change_of e.change)
-  expands = record { params = head.params; result = head.result; carries = asked_carries p f e.fun (change_of e.change) (h.keeps f h.there h.exported h.typed h.text) }
+  pub expands : IsExpandedTo p f e.fun (change_of e.change)
+  expands = expansions_keep_runs p f e.fun (change_of e.change) e.count h.typed h.text h.there h.exported h.expansion
 
   lines : AreResultLines result_registers f.result f.rets c.rets
   lines = subst (λ xs. AreResultLines result_registers xs f.rets c.rets) head.result (subst (λ ts. AreResultLines result_registers e.fun.result ts c.rets) head.rets h.made.rets)
 
-  plain : HasPlainHead e.fun
-  plain = subst HasPlainHead (sym expansion.function) (plain_head p f expansion.unrolled known expansion.head differ c.rets lines)
+  pub plain : HasPlainHead e.fun
+  plain = subst HasPlainHead (sym h.expansion.function) (plain_head p f h.expansion.unrolled known h.expansion.head differ c.rets lines)
+
+  abbrev pub is_made : IsMade p f c
+  is_made = made p f e.fun (change_of e.change) c h.there head expands h.made plain h.safe
 
   pub carries : CarriesOver p f c
-  carries = carries_over p f e.fun (change_of e.change) c among head expands h.made plain h.safe
+  carries = carries_over p f e.fun (change_of e.change) c h.there head expands h.made plain h.safe
 
   params_unstacked : All IsUnstacked f.params
-  params_unstacked = All-contains (λ (q : Fun). is_exported q.kind ≡ true → All IsUnstacked q.params) p.funs f (unstacked p h.typed) among h.exported
+  params_unstacked = All-contains (λ (q : Fun). is_exported q.kind ≡ true → All IsUnstacked q.params) p.funs f (unstacked p h.typed) h.there h.exported
 
   stack : h.made.lowered.stack ≡ map stacked_as (stack_variables_of p f)
   stack =
-      h.made.is_lowered.stack ∙ (of_declarations e.fun plain.differ).stack ∙ ap stack_of expansion.function
-      ∙ stack_is p f expansion.unrolled expansion.head differ params_unstacked
+      h.made.is_lowered.stack ∙ (of_declarations e.fun plain.differ).stack ∙ ap stack_of h.expansion.function
+      ∙ stack_is p f h.expansion.unrolled h.expansion.head differ params_unstacked
 
   -- ---- the frame
   ends : laying.end_from 0 h.made.lowered.stack ≡ layout_end p f

@@ -9,6 +9,10 @@ use jz_io::Bytes;
 use jz_text::write_number;
 use std::alloc::{AllocError, Global};
 
+mod laws;
+
+pub use laws::programs_are_short;
+
 /// What stands before the lines of the loop.
 const HEAD: &[u8] = b"export fn main(reg u64 x1 x2 x3 c) -> reg u64 {
   reg u64 x0;

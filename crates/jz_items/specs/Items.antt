@@ -1,5 +1,5 @@
 -- The items of a command line.
-use Rattle.std.specs.Prelude.{ℕ, ◌<◌, ◌+◌, ◌*◌, ◌^◌, ◌==◌, nat_lt, nat_le, Bool, true, false, not, ◌&&◌, ◌||◌, if◌then◌else◌, List, [], ◌∷◌, ◌++◌, length, Option, Some, None, option_map, map}
+use Rattle.std.specs.Prelude.{◌≡◌, ℕ, ◌<◌, ◌+◌, ◌*◌, ◌^◌, ◌==◌, nat_lt, nat_le, Bool, true, false, not, ◌&&◌, ◌||◌, if◌then◌else◌, List, [], ◌∷◌, ◌++◌, length, Option, Some, None, option_map, map}
 use Rattle.std.specs.List.{list_any, before_first, after_first, AllByRecursion}
 use Rattle.std.specs.Option.{option_and_then}
 use Rattle.std.specs.Result.{result_ok}
@@ -82,6 +82,10 @@ items_behind before (w ∷ ws) =
 
 abbrev pub items_of : List (List ℕ) → Option (List Item)
 items_of words = items_behind [] words
+
+-- the items that some words are
+abbrev pub AreItems : List Item → Type 0
+AreItems items = (words : List (List ℕ)) × (items_of words ≡ Some items)
 
 -- ---- as arguments
 -- the number, or the address of the bytes

@@ -10,7 +10,7 @@ use Rattle.jz_tree.specs.declared.program.Program.{Program}
 use Rattle.jz_operations.specs.declared.operation.Stacked.{Stacked}
 use Rattle.jz_listing.specs.declared.compiled.Compiled.{Compiled}
 use Rattle.jz_correct.specs.Frames.{rounded_up, saved_of, saved_slots, slots_from, frame_end, frame_size}
-use Rattle.jz_correct.specs.Correctness as correct
+use Rattle.jz_correct.specs.Assembled as correct
 use Rattle.x64_assemble.specs.Assembling as assembling
 use Rattle.jz_stack.specs.Laying as laying
 use Rattle.jz_stack.specs.Framed.{slot_outs}

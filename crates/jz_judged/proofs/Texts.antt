@@ -16,7 +16,7 @@ use Rattle.jasminc_source.proofs.Causing.{types_one, text_typed}
 use Rattle.jasminc_check.specs.Answers as safety
 use Rattle.jasminc_ct.specs.Answers.{Gives}
 use Rattle.jasminc_ct.specs.Judging.{IsConstant, ConstantIfExported, YesLine, AreConstant}
-use Rattle.jasminc_ct.proofs.FirstCauses.{text_text}
+use Rattle.jasminc_expansions.proofs.Typing.{text_text}
 use Rattle.jz_constant_leaks.specs.ConstantLeaks.{LeakAlike}
 use Rattle.jz_constant_leaks.proofs.Alike.{expansions_same, functions_alike}
 use Rattle.jz_judged.specs.JudgedLaws.{BothLeakAlike, InputsLeakAlike, LeaksNothingSecret, InputsLeakNothingSecret, JudgedLeakNothingSecret, CheckedLeakNothingSecret}

@@ -14,12 +14,13 @@ use Rattle.jz_meaning.specs.Statements as statements
 use Rattle.jz_meaning.specs.Statements.{Block}
 use Rattle.jz_correct.specs.Registers.{argument_registers, result_registers}
 use Rattle.jz_change.specs.Changes.{Change}
+use Rattle.jz_change.specs.Views.{change_of}
 use Rattle.jz_pass.specs.Laws.{Carries}
 use Rattle.jz_pass.specs.Cases.{IsBetween, cases_of}
 use Rattle.jz_placing.specs.Variables.{variables}
 use Rattle.jz_place.specs.declared.tree.Passed.{Passed}
 use Rattle.jz_place.specs.Bodies.{body_of}
-use Rattle.jz_codable.specs.Ready.{IsReady}
+use Rattle.jz_codable.specs.Ready.{IsReady, IsShort}
 use Rattle.jz_homes.specs.Homes.{Homes}
 use Rattle.jz_row_operations.specs.Bodies.{beside}
 use Rattle.jz_lowered.specs.Functions.{ArePassed, IsLoweredFun}
@@ -94,7 +95,9 @@ pub data Refuses (f : Fun) : Span → Type 0 where
       → ArePassed (homes_for f) argument_registers (map (λ p. p.var) f.params) ps
       → ArePassed (homes_for f) result_registers f.result rs
       → IsFirstWithout (homes_for f) (parts_in (plain_body f)) at → Refuses f at
-  -- it has 2^25 statements or more, those in branches and loops too, or 2^32 variables
+  -- it has 2^25 statements or more, those in branches and loops too, or 2^32 variables; and what it
+  -- is as operations is too long
   too_long :
       (2 ^ 25 ≤ statements_in (plain_body f)) ⊎ (2 ^ 32 ≤ length (table_of f).kinds)
+      → (l : LoweredFun) → IsFunctionLowered f l (change_of l.change) → (IsShort l.ir → ⊥)
       → Refuses f f.span

@@ -3,7 +3,9 @@ use Rattle.std.specs.Prelude.{Some, slice_get}
 use Rattle.std.proofs.lemmas.Result.{err_from_is_err_and}
 use Rattle.jz_tree.specs.declared.program.Program.{Program}
 use Rattle.jz_type_rows.specs.Exports.{is_exported}
-use Rattle.jasminc_check.proofs.Readying.{refused_too, among_ready, alarm_at, line_added, nothing_added}
+use Rattle.jz_pass.proofs.Refusing.{refused_too}
+use Rattle.jasminc_expansions.proofs.Readying.{among_ready}
+use Rattle.jasminc_check.proofs.Readying.{alarm_at, line_added, nothing_added}
 use Rattle.jasminc_check.proofs.functions.add_line.Goals as goal
 
 pub function_at-function-requires : goal.function_at-function-requires

@@ -1,7 +1,7 @@
 use Rattle.std.proofs.Common.{◌<◌, ◌≤◌, ℕ, List, length, sym, subst, rules}
 use Rattle.std.proofs.lemmas.Result.{err_from_is_err_and}
+use Rattle.jz_pass.proofs.Refusing.{refused_too}
 use Rattle.jasminc_check.specs.Safety.{AreSafe}
-use Rattle.jasminc_check.proofs.Readying.{refused_too}
 use Rattle.jasminc_check.proofs.Lines.{IsSoFar, none_so_far, next_so_far, alarm_there, all_so_far}
 use Rattle.jasminc_check.proofs.functions.check_functions.Goals as goal
 

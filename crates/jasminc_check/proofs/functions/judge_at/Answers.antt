@@ -11,7 +11,9 @@ use Rattle.jz_asked.specs.declared.alarms.Alarm as asked
 use Rattle.jz_asked.specs.Asked.{alarm_of}
 use Rattle.jz_first_alarm.specs.FirstAlarms.{HasFirstAlarm}
 use Rattle.jasminc_check.specs.InnerSafety.{IsJudgedAt}
-use Rattle.jasminc_check.proofs.Readying.{ready_below, none_refused, refused_too, expansion_at, differ, few, plain, judged_at}
+use Rattle.jz_pass.proofs.Refusing.{refused_too}
+use Rattle.jasminc_expansions.proofs.Readying.{ready_below, none_refused, expansion_at}
+use Rattle.jasminc_check.proofs.Readying.{differ, few, plain, judged_at}
 use Rattle.jasminc_check.proofs.functions.judge_at.Goals as goal
 
 pub function_at-function-requires : goal.function_at-function-requires

@@ -1,4 +1,4 @@
-use Rattle.std.proofs.Common.{◌≡◌, sym, subst, rules}
+use Rattle.std.proofs.Common.{◌≡◌, subst, rules}
 use Rattle.std.specs.Prelude.{All}
 use Rattle.std.proofs.lemmas.Result.{err_from_is_err_and}
 use Rattle.jz_tree.specs.declared.program.Program.{Program}
@@ -8,9 +8,10 @@ use Rattle.jasminc_source.specs.Unreadable.{IsUnread}
 use Rattle.jasminc_source.specs.Exports.{WithinIfExported, HasLimit}
 use Rattle.jasminc_source.proofs.Causing.{text_typed}
 use Rattle.jasminc_source.proofs.Stopping.{stage_refuses, ok_says}
+use Rattle.jasminc_expansions.proofs.Typing.{text_text}
 use Rattle.jasminc_check.specs.declared.refused.Refused.TheVariants.{Unread, Limit, Alarm}
 use Rattle.jasminc_check.specs.Safety.{AreSafe, HasAlarm}
-use Rattle.jasminc_check.proofs.FirstCauses.{IsUnreadable, IsLimit, IsAlarm, reading_fails, limits_fail, alarms_fail, all_done, text_text}
+use Rattle.jasminc_check.proofs.FirstCauses.{IsUnreadable, IsLimit, IsAlarm, reading_fails, limits_fail, alarms_fail, all_done}
 use Rattle.jasminc_check.proofs.stages.check_text.Goals as goal
 
 pub returns-in_err-typed : goal.returns-in_err-typed

@@ -1,7 +1,7 @@
 use Rattle.std.proofs.Common.{◌<◌, ◌≤◌, ℕ, List, length, sym, subst, rules}
 use Rattle.std.proofs.lemmas.Result.{err_from_is_err_and}
+use Rattle.jz_pass.proofs.Refusing.{refused_too}
 use Rattle.jasminc_ct.specs.Judging.{AreConstant}
-use Rattle.jasminc_ct.proofs.Readying.{refused_too}
 use Rattle.jasminc_ct.proofs.Lines.{IsSoFar, none_so_far, next_so_far, breach_there, all_so_far}
 use Rattle.jasminc_ct.proofs.functions.judge_functions.Goals as goal
 

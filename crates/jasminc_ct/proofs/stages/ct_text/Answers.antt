@@ -8,9 +8,10 @@ use Rattle.jasminc_source.specs.Unreadable.{IsUnread}
 use Rattle.jasminc_source.specs.Exports.{WithinIfExported, HasLimit}
 use Rattle.jasminc_source.proofs.Causing.{text_typed}
 use Rattle.jasminc_source.proofs.Stopping.{stage_refuses, ok_says}
+use Rattle.jasminc_expansions.proofs.Typing.{text_text}
 use Rattle.jasminc_ct.specs.declared.refused.Refused.TheVariants.{Unread, Limit, Breach}
 use Rattle.jasminc_ct.specs.Judging.{AreConstant, HasBreach}
-use Rattle.jasminc_ct.proofs.FirstCauses.{IsUnreadable, IsLimit, IsBreach, reading_fails, limits_fail, breaches_fail, all_done, text_text}
+use Rattle.jasminc_ct.proofs.FirstCauses.{IsUnreadable, IsLimit, IsBreach, reading_fails, limits_fail, breaches_fail, all_done}
 use Rattle.jasminc_ct.proofs.stages.ct_text.Goals as goal
 
 pub returns-in_err-typed : goal.returns-in_err-typed

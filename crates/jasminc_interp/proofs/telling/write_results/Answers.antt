@@ -3,7 +3,7 @@ use Rattle.std.specs.Option.{option_copied}
 use Rattle.jz_tree.specs.declared.expr.Var.{Var}
 use Rattle.jz_meaning.specs.States.{Value, word}
 use Rattle.jasminc_interp.specs.Telling.{value_text}
-use Rattle.jasminc_interp.proofs.InStep.{zip_more, zip_ended, zip_over, lined, lines_end}
+use Rattle.jasminc_calls.proofs.InStep.{zip_more, zip_ended, zip_over, lined, lines_end}
 use Rattle.jasminc_interp.proofs.telling.write_results.Goals as goal
 
 pub returns-in-None : goal.returns-in-None

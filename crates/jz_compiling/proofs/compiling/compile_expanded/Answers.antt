@@ -3,9 +3,9 @@ use Rattle.jz_correct.specs.Registers.{argument_registers, result_registers}
 use Rattle.jz_compiled.specs.Lines.{AreArgumentLines, AreResultLines}
 use Rattle.jz_compiling.proofs.compiling.compile_expanded.Goals as goal
 
-pub returns : goal.returns
-returns c =
-    let h = c.in_ok-head.ensures in
+pub returns-clause-made : goal.returns-clause-made
+returns-clause-made c =
+    let h = c.in_ok-head.ensures.lines in
     let t = c.in_ok-compiled.ensures in (
       record {
         name = t.name;
@@ -17,7 +17,7 @@ returns c =
         keeps = c.in_ok-lowered.ensures.law;
         ready = c.in_ok-lowered.ensures.ready;
         code = c.in_ok-code.code;
-        is_code = c.in_ok-code.ensures;
+        is_code = c.in_ok-code.ensures.code;
         has = t.has;
         saved = t.saved;
         transformer = t.transformer;

@@ -19,4 +19,4 @@ returns-clause-covered c = is_covered c.args.fun.now c.in_ok-lowered.lowered (ch
 pub returns-then-not-is_short-clause-refused : goal.returns-then-not-is_short-clause-refused
 returns-then-not-is_short-clause-refused c =
     let l = c.in_ok-lowered.lowered in
-    too_long (is_long c.args.fun.now l (change_of l.change) c.in_ok-lowered.ensures.made (c.is_short.ensures.only c.if-not-is_short.true))
+    too_long (is_long c.args.fun.now l (change_of l.change) c.in_ok-lowered.ensures.made (c.is_short.ensures.only c.if-not-is_short.true)) l c.in_ok-lowered.ensures.made (c.is_short.ensures.only c.if-not-is_short.true)

@@ -1,0 +1,4 @@
+pub mod Named
+pub mod Stages
+pub mod FirstCauses
+pub mod Answering

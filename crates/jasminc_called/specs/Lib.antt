@@ -1,0 +1,5 @@
+pub mod Causes
+pub mod Making
+pub mod Calls
+pub mod Answers
+pub mod InnerMaking

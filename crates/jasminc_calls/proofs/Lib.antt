@@ -1,0 +1,4 @@
+pub mod InStep
+pub mod Bits
+pub mod Parameters
+pub mod Suiting

@@ -1,0 +1,97 @@
+-- What one safe export function comes to, and what that says of all.
+use Rattle.std.specs.Prelude.{◌≡◌, ◌≤◌, ℕ, List, All, Option, Some, slice_get, ⊤}
+use Rattle.std.specs.List.{AllZip}
+use Rattle.jz_tree.specs.Span.{Span}
+use Rattle.jz_tree.specs.declared.program.Fun.{Fun}
+use Rattle.jz_tree.specs.declared.program.Program.{Program}
+use Rattle.jz_alloc.specs.declared.placing.NoPlace as numbered
+use Rattle.jz_change.specs.Views.{change_of}
+use Rattle.jz_expansion.specs.Expanding.{IsExpandedAt}
+use Rattle.jz_expansion.specs.declared.expanded.Expanded.{Expanded}
+use Rattle.jz_listing.specs.declared.compiled.Compiled.{Compiled}
+use Rattle.jz_compiling.specs.declared.compiling.NotCompiled.{NotCompiled}
+use Rattle.jz_compiling.specs.Made.{IsMadeOf}
+use Rattle.jz_declared.specs.Declared.{held_of}
+use Rattle.jz_without_code.specs.Without.{FirstOrAll}
+use Rattle.jz_unplaced.specs.declared.unplaced.Unplaced.{Unplaced}
+use Rattle.jz_unplaced.specs.Names.{refusal_of}
+use Rattle.jz_verdict.specs.Said.{IsSaidOf}
+use Rattle.jz_whole_pipeline.specs.Correctness.{IsCorrectOf, HasPlaces, IsRefusedFor}
+use Rattle.jasminc_compile.specs.declared.outcome.Outcome.{Outcome}
+use Rattle.jasminc_compile.specs.declared.outcome.Outcome.TheVariants.{Made, Not}
+use Rattle.jasminc_compile.specs.declared.outcome.Unmade.{Unmade}
+use Rattle.jasminc_compile.specs.declared.outcome.Unmade.TheVariants as unmade
+use Rattle.jasminc_compile.specs.declared.safety.SafeFun.{SafeFun}
+use Rattle.jasminc_compile.specs.SafeFunctions.{exports_of, IsSafeFun}
+use Rattle.jasminc_compile.specs.Refusals.{LacksOperations, IsTooLargeFun, IsUnmade}
+use Rattle.jasminc_compile.specs.Making.{IsMade, HasNone, HasUnmade}
+
+-- what is promised of the code of an expansion
+pub record IsCompiledFrom (e : Expanded) (c : Compiled) : Type 0 where
+  pub made : IsMadeOf e.fun (change_of e.change) c
+  pub correct : IsCorrectOf e c
+  pub said : IsSaidOf e.fun c.ct
+  pub placed : HasPlaces e.fun
+  pub small : c.frame ≤ 65592
+
+-- ---- the function at a place
+
+-- the expansion of the function there is refused
+pub record IsRefusedAt (p : Program) (place : ℕ) (why : NotCompiled) : Type 0 where
+  pub expanded : Expanded
+  pub at : IsExpandedAt p place expanded
+  pub refused : IsRefusedFor expanded.fun why
+
+-- by the names of an expansion of it
+pub record IsNamedAt (p : Program) (place : ℕ) (n : numbered.NoPlace) (u : Unplaced) : Type 0 where
+  pub expanded : Expanded
+  pub at : IsExpandedAt p place expanded
+  pub named : u ≡ refusal_of (held_of expanded.fun) n
+
+-- the first statement of an expansion of it without operations, or that all have them
+pub record LacksAt (p : Program) (place : ℕ) (first : Option Span) : Type 0 where
+  pub expanded : Expanded
+  pub at : IsExpandedAt p place expanded
+  pub lacks : FirstOrAll expanded.fun first
+
+abbrev pub IsNameAt : Program → ℕ → List ℕ → Type 0
+IsNameAt p place name = (f : Fun) × (slice_get p.funs place ≡ Some f) × (name ≡ f.name)
+
+-- where a frame is too large, no statement lacks operations
+abbrev pub IsBehindOperations : Program → Fun → Unmade → Type 0
+IsBehindOperations p f (unmade.Frame name) = HasNone (LacksOperations p) f
+IsBehindOperations p f u = ⊤
+
+pub record IsUnmadeAt (p : Program) (place : ℕ) (u : Unmade) : Type 0 where
+  pub function : Fun
+  pub there : slice_get p.funs place ≡ Some function
+  pub unmade : IsUnmade p function u
+  pub behind : IsBehindOperations p function u
+
+-- ---- outcomes
+abbrev pub IsOutcome : Program → Fun → Outcome → Type 0
+IsOutcome p f (Made c) = IsMade p f c
+IsOutcome p f (Not u) = IsUnmade p f u × IsBehindOperations p f u
+
+abbrev pub IsSafeSomewhere : Program → SafeFun → Type 0
+IsSafeSomewhere p s = (f : Fun) × IsSafeFun p f s
+
+abbrev pub IsOutcomeAt : Program → ℕ → Outcome → Type 0
+IsOutcomeAt p place o = (f : Fun) × (slice_get p.funs place ≡ Some f) × IsOutcome p f o
+
+abbrev pub AreOutcomes : Program → List Outcome → Type 0
+AreOutcomes p os = AllZip (IsOutcome p) (exports_of p.funs) os
+
+-- ---- what is told
+
+-- where a frame is too large, no statement lacks operations; where a variable has no place, neither
+abbrev pub IsBehindOthers : Program → Unmade → Type 0
+IsBehindOthers p (unmade.NoOperations at) = ⊤
+IsBehindOthers p (unmade.Frame name) = All (HasNone (LacksOperations p)) (exports_of p.funs)
+IsBehindOthers p (unmade.NoPlace u) =
+    All (HasNone (LacksOperations p)) (exports_of p.funs)
+    × All (HasNone (IsTooLargeFun p)) (exports_of p.funs)
+
+pub record IsTold (p : Program) (u : Unmade) : Type 0 where
+  pub has : HasUnmade p u
+  pub behind : IsBehindOthers p u

@@ -1,0 +1,9 @@
+pub mod SafeFunctions
+pub mod Refusals
+pub mod Making
+pub mod Causes
+pub mod Answers
+pub mod MakingLaws
+pub mod InnerSafety
+pub mod InnerMaking
+pub mod InnerSettling

@@ -1,4 +1,0 @@
-pub mod ArgumentRegisters
-pub mod CodeLengths
-pub mod ExecStart
-pub mod StartLaws

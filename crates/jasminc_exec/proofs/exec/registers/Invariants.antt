@@ -1,9 +1,0 @@
-use Rattle.std.proofs.Common.{◌≡◌, drop}
-use Rattle.jz_correct.specs.Registers.{argument_registers}
-use Rattle.jasminc_exec.specs.Running.{with_numbers, bare_registers}
-use Rattle.jasminc_exec.proofs.exec.registers.Given as goal
-
-abbrev pub invariant-loop-i : goal.invariant-loop-i
-invariant-loop-i l =
-    with_numbers (drop l.i l.items) (drop l.i argument_registers) l.regs
-    ≡ with_numbers l.items argument_registers bare_registers

@@ -1,8 +1,0 @@
-use Rattle.std.proofs.Common.{◌≡◌, ◌++◌, map, take}
-use Rattle.std.specs.List.{concat}
-use Rattle.jasminc_interp.specs.Telling.{region_text}
-use Rattle.jasminc_interp.proofs.telling.write_regions.Given as goal
-
-abbrev pub invariant-loop-pre : goal.invariant-loop-pre
-invariant-loop-pre l =
-    l.text.items ≡ l.initial.text.items ++ concat (map (region_text l.function l.words l.memory) (take l.pre-index l.pres))

@@ -1,0 +1,4 @@
+pub mod Starting
+pub mod Telling
+pub mod Running
+pub mod Calling

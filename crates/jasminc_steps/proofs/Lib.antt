@@ -1,0 +1,2 @@
+pub mod ArgumentRegisters
+pub mod Placing

@@ -1,7 +1,0 @@
-use Rattle.std.proofs.Common.{◌≡◌, ◌++◌, map, take}
-use Rattle.std.specs.List.{concat}
-use Rattle.jasminc_top.specs.Lines.{holder_text}
-use Rattle.jasminc_top.proofs.lines.write_each_holder.Given as goal
-
-abbrev pub invariant-loop-holder : goal.invariant-loop-holder
-invariant-loop-holder l = l.line.items ≡ l.initial.line.items ++ concat (map holder_text (take l.holder-index l.holders))

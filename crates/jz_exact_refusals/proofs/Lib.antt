@@ -1,0 +1,4 @@
+pub mod Fitting
+pub mod Frames
+pub mod Homed
+pub mod Whole

@@ -1,3 +1,0 @@
-pub mod SourceLaws
-pub mod StraightLaws
-pub mod SomeLabels

@@ -1,5 +1,0 @@
-use Rattle.jz_first_meaning.proofs.SourceLaws.{block_some, fun_some}
-use Rattle.jz_first_meaning.proofs.laws.some_outcome.Goals as goal
-
-pub returns : goal.returns
-returns c = record { statements = block_some; functions = fun_some }

@@ -1,0 +1,10 @@
+pub mod Sized
+pub mod Words
+pub mod Stated
+pub mod Variables
+pub mod Terms
+pub mod Firsts
+pub mod Operations
+pub mod Called
+pub mod Secrets
+pub mod Listed

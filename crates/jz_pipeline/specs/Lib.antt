@@ -1,5 +1,0 @@
-pub mod Limits
-pub mod Compiling
-pub mod Placed
-pub mod Stages
-pub mod Addition

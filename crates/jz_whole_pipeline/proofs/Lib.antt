@@ -1,0 +1,5 @@
+pub mod Counted
+pub mod Lines
+pub mod Indexed
+pub mod Compiled
+pub mod Printed

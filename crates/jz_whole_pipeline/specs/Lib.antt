@@ -1,0 +1,2 @@
+pub mod Correctness
+pub mod Headline
