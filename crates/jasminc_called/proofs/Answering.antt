@@ -12,14 +12,14 @@ use Rattle.jz_tree.specs.declared.program.Program.{Program}
 use Rattle.jz_type_rows.specs.Exports.{is_exported}
 use Rattle.jz_items.specs.declared.item.Item.{Item}
 use Rattle.jz_listing.specs.declared.compiled.Compiled.{Compiled}
-use Rattle.jz_expansion.proofs.Followed.{contains_at}
+use Rattle.jasminc_compile.proofs.Followed.{contains_at}
 use Rattle.jasminc_source.specs.Texts.{TypesAs}
 use Rattle.jasminc_source.specs.Stage.{ComesFrom}
 use Rattle.jasminc_source.specs.Exports.{export_named, IsFoundAt, WithinIfExported}
 use Rattle.jasminc_source.proofs.Causing.{text_typed}
 use Rattle.jasminc_source.proofs.Finding.{named_has}
 use Rattle.jasminc_source.proofs.Stopping.{stage_refuses}
-use Rattle.jasminc_expansions.proofs.Typing.{text_text}
+use Rattle.jasminc_compile.proofs.Typing.{text_text}
 use Rattle.jasminc_calls.specs.declared.fitting.Unfit.{Unfit}
 use Rattle.jasminc_calls.specs.declared.fitting.Unfit.TheVariants as misfit
 use Rattle.jasminc_calls.specs.Calls.{AllHold}

@@ -2,3 +2,4 @@ pub mod Named
 pub mod Stages
 pub mod FirstCauses
 pub mod Answering
+pub use Rattle.jasminc_compile.proofs.Coming

@@ -8,7 +8,7 @@ use Rattle.jz_tree.specs.declared.program.Program.{Program}
 use Rattle.jz_listing.specs.Listing.{listing_text}
 use Rattle.jz_listing.specs.declared.compiled.Compiled.{Compiled}
 use Rattle.jasminc_source.specs.Exports.{WithinIfExported}
-use Rattle.jasminc_check.specs.Safety.{SafeIfExported}
+use Rattle.jasminc_compile.specs.CheckSafety.{SafeIfExported}
 use Rattle.jasminc_compile.specs.declared.refused.Refused.{Refused}
 use Rattle.jasminc_compile.specs.declared.stages.Compilation.{Compilation}
 use Rattle.jasminc_compile.specs.Making.{AreMade}

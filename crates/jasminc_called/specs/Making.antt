@@ -7,7 +7,7 @@ use Rattle.jz_items.specs.declared.item.Item.{Item}
 use Rattle.jz_listing.specs.declared.compiled.Compiled.{Compiled}
 use Rattle.jasminc_source.specs.Texts.{TypesAs}
 use Rattle.jasminc_source.specs.Exports.{export_named}
-use Rattle.jasminc_expansions.specs.Ready.{IsReadyAt}
+use Rattle.jasminc_compile.specs.Ready.{IsReadyAt}
 use Rattle.jasminc_compile.specs.Making.{IsMade, AreMade}
 use Rattle.jasminc_called.specs.declared.making.MadeFor.{MadeFor}
 use Rattle.jasminc_called.specs.declared.refused.Refused.{Refused}

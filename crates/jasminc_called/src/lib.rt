@@ -8,7 +8,7 @@ mod making;
 mod refused;
 
 pub use calling::{Told, as_refusal, exec_text, leak_text, told_with};
-pub use jasminc_compile::Unmade;
+pub use jasminc_compile::{Compilation, Refused as Uncompiled, Unmade, compile_text};
 pub use jasminc_runs::Ran;
 pub use making::{MadeFor, compiled_for, made_for};
 pub use refused::Refused;

@@ -21,8 +21,8 @@ use Rattle.jz_alarms.specs.Alarms.{IsFirstAlarm}
 use Rattle.jz_one_alarm.specs.SetLaws.{IsGivenAlike}
 use Rattle.jz_one_alarm.proofs.OneAlarms.{one_alarm_of_set}
 use Rattle.jz_one_unrolling.proofs.One.{one_unrolling}
-use Rattle.jz_one_expansion.specs.OneExpansion.{IsSame}
-use Rattle.jz_one_expansion.proofs.Expansions.{expansions_same}
+use Rattle.jz_expanded_numbers.specs.OneExpansion.{IsSame}
+use Rattle.jz_expanded_numbers.proofs.OneExpansionExpansions.{expansions_same}
 use Rattle.jz_expanded_numbers.proofs.Expansions.{one_numbers}
 use Rattle.jz_preconditions.specs.Stating.{preconditions_of}
 use Rattle.jz_type_rows.specs.Exports.{is_exported}

@@ -10,8 +10,8 @@ use Rattle.jz_type_rows.specs.Exports.{is_exported}
 use Rattle.jz_annotations.specs.declared.precondition.Pre.{Pre}
 use Rattle.jz_preconditions.specs.Stating.{preconditions_of}
 use Rattle.jz_change.specs.Changes.{Change}
-use Rattle.jz_expansion.specs.Expansions.{IsExpansion}
-use Rattle.jz_expansion.proofs.Followed.{same_at, contains_at}
+use Rattle.jasminc_expansions.specs.Expansions.{IsExpansion}
+use Rattle.jasminc_expansions.proofs.Followed.{same_at, contains_at}
 use Rattle.jz_fact_sets.specs.Kept.{AreDifferent}
 use Rattle.jz_given.specs.Giving.{param_of}
 use Rattle.jz_given_laws.specs.GivenLaws.{HasDifferent, HasFew}
@@ -20,7 +20,7 @@ use Rattle.jz_block_facts.specs.Heads.{HasNoFor, plain_block}
 use Rattle.jz_alarms.specs.Conditions.{Alarm}
 use Rattle.jz_asked.specs.declared.alarms.Alarm as asked
 use Rattle.jz_asked.specs.Asked.{alarm_of}
-use Rattle.jz_one_expansion.proofs.Expansions.{expansion_plain}
+use Rattle.jz_expanded_numbers.proofs.OneExpansionExpansions.{expansion_plain}
 use Rattle.jz_first_alarm.specs.FirstAlarms.{HasFirstAlarm}
 use Rattle.jasminc_expansions.specs.Ready.{IsReadyAt}
 use Rattle.jasminc_check.specs.Safety.{IsSafe, safe_line}

@@ -4,3 +4,4 @@ pub mod Causes
 pub mod Answers
 pub mod InnerSafety
 pub mod JudgementLaws
+pub use Rattle.jasminc_expansions.specs.Ready

@@ -5,7 +5,7 @@ use Rattle.jz_tree.specs.declared.program.Fun.{Fun}
 use Rattle.jz_tree.specs.declared.program.Program.{Program}
 use Rattle.jz_type_rows.specs.Exports.{is_exported}
 use Rattle.jz_change.specs.Changes.{Change}
-use Rattle.jz_expansion.specs.Expansions.{IsExpansion}
+use Rattle.jasminc_expansions.specs.Expansions.{IsExpansion}
 use Rattle.jz_preconditions.specs.Stating.{preconditions_of}
 use Rattle.jz_alarms.specs.Conditions as conditions
 use Rattle.jz_asked.specs.declared.alarms.Alarm.{Alarm}

@@ -9,6 +9,7 @@ mod refused;
 mod stages;
 
 pub use alarms::write_alarm;
+pub use jasminc_expansions::expanded_at;
 pub use jasminc_source::{FunLimit, Unread};
 pub use jz_asked::{Alarm, Target};
 pub use laws::one_judgement;

@@ -20,7 +20,7 @@ use Rattle.jasminc_source.specs.Unreadable.{IsUnread, unread_stage}
 use Rattle.jasminc_source.specs.Exports.{WithinIfExported, HasLimit}
 use Rattle.jasminc_source.proofs.Causing.{types_as_read, first_unread, unread_early, types_one, text_typed}
 use Rattle.jasminc_source.proofs.Limiting.{none_passes}
-use Rattle.jasminc_expansions.proofs.Typing.{text_text}
+use Rattle.jasminc_check.proofs.Typing.{text_text}
 use Rattle.jasminc_check.specs.Safety.{SafeIfExported, HasAlarm}
 use Rattle.jasminc_check.specs.Causes.{PassesLimit, GivesAlarm}
 use Rattle.jasminc_check.proofs.Judged.{one_judged}

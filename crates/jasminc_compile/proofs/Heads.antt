@@ -14,7 +14,7 @@ use Rattle.jz_preconditions.specs.Stating.{stated_in, pres_of, preconditions_of}
 use Rattle.jz_change.specs.Changes.{Change}
 use Rattle.jz_expansion.specs.Expansions.{IsExpansion}
 use Rattle.jz_one_unrolling.proofs.One.{one_unrolling}
-use Rattle.jz_one_expansion.proofs.Expansions.{expansions_same}
+use Rattle.jz_verdict.proofs.Expansions.{expansions_same}
 use Rattle.jz_declared.specs.Declared.{held_for, held_of}
 use Rattle.jz_homing.specs.Tables.{no_homes, with_vars}
 use Rattle.jz_stack.specs.Laying.{end_from}
@@ -32,7 +32,7 @@ use Rattle.jz_lowering.specs.Functions.{plain_body, homes_for, IsFunctionLowered
 use Rattle.jz_without_code.specs.Without.{IsWithoutCode}
 use Rattle.jz_code.specs.declared.code.NoCode.{NoCode}
 use Rattle.jz_code.specs.declared.code.NoCode.TheVariants as no
-use Rattle.jz_compiling.specs.Refused.{stack_end, IsCodeless}
+use Rattle.jz_whole_pipeline.specs.Refused.{stack_end, IsCodeless}
 
 abbrev stated : List Param → List Note → List Pre
 stated ps notes = pres_of (stated_in (λ n. variable_named n (map (λ (q : Param). q.var) ps)) notes)

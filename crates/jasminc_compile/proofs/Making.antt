@@ -15,20 +15,20 @@ use Rattle.jz_lowering.specs.Functions.{plain_body, homes_for}
 use Rattle.jz_lowering.proofs.CodeOfParts.{never_both}
 use Rattle.jz_code.specs.declared.code.NoCode.TheVariants as no
 use Rattle.jz_listing.specs.declared.compiled.Compiled.{Compiled}
-use Rattle.jz_compiling.specs.declared.compiling.NotCompiled.{NotCompiled}
-use Rattle.jz_compiling.specs.declared.compiling.NotCompiled.TheVariants as uncompiled
+use Rattle.jz_whole_pipeline.specs.NotCompiled.{NotCompiled}
+use Rattle.jz_whole_pipeline.specs.NotCompiled.TheVariants as uncompiled
 use Rattle.jz_declared.specs.Declared.{Held}
 use Rattle.jz_unplaced.specs.declared.unplaced.Unplaced.{Unplaced}
 use Rattle.jz_unplaced.specs.Names.{refusal_of}
-use Rattle.jz_compiling.specs.Made.{IsMadeOf}
-use Rattle.jz_safe.specs.Texts.{IsExpandedFrom}
-use Rattle.jz_safe.specs.declared.certificate.Safe.{Safe}
+use Rattle.jz_whole_pipeline.specs.Made.{IsMadeOf}
+use Rattle.jz_whole_pipeline.specs.Texts.{IsExpandedFrom}
+use Rattle.jz_whole_pipeline.specs.Safe.{Safe}
 use Rattle.jz_verdict.specs.Said.{IsSaid, IsSaidOf}
-use Rattle.jz_constant_time.specs.Shown.{ShowsNothingSecret}
+use Rattle.jz_no_secrets.specs.Shown.{ShowsNothingSecret}
 use Rattle.jz_no_secrets.proofs.Whole.{said_shows_nothing_secret}
 use Rattle.jz_whole_pipeline.proofs.Compiled.{compiled_from}
 use Rattle.jz_whole_pipeline.specs.Correctness.{IsRefusedFor}
-use Rattle.jasminc_expansions.proofs.Readying.{expansion_at}
+use Rattle.jasminc_check.proofs.ExpansionsReadying.{expansion_at}
 use Rattle.jasminc_compile.specs.declared.outcome.Outcome.TheVariants.{Made, Not}
 use Rattle.jasminc_compile.specs.declared.outcome.Unmade.{Unmade}
 use Rattle.jasminc_compile.specs.declared.outcome.Unmade.TheVariants as unmade

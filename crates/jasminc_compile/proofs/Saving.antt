@@ -19,9 +19,9 @@ use Rattle.jz_first_alarm.specs.FirstAlarms.{HasFirstAlarm}
 use Rattle.jz_expansion.specs.Expanding.{IsExpandedAt}
 use Rattle.jz_expansion.specs.declared.expanded.Expanded.{Expanded}
 use Rattle.jz_expansion.proofs.Followed.{same_at, contains_at}
-use Rattle.jz_safe.specs.Texts.{IsExpandedFrom, IsOfText}
-use Rattle.jz_safe.specs.declared.certificate.Safe.{Safe}
-use Rattle.jasminc_expansions.specs.Ready.{IsReadyAt}
+use Rattle.jz_whole_pipeline.specs.Texts.{IsExpandedFrom, IsOfText}
+use Rattle.jz_whole_pipeline.specs.Safe.{Safe}
+use Rattle.jasminc_check.specs.Ready.{IsReadyAt}
 use Rattle.jasminc_check.specs.Safety.{SafeIfExported, HasAlarm}
 use Rattle.jasminc_check.specs.InnerSafety.{IsJudgedAt, AlarmAt}
 use Rattle.jasminc_compile.specs.declared.safety.SafeFun.{SafeFun}

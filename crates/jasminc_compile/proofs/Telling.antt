@@ -11,7 +11,7 @@ use Rattle.jz_tree.specs.declared.program.Program.{Program}
 use Rattle.jz_change.specs.Views.{change_of}
 use Rattle.jz_lowering.proofs.FunctionLemmas.{lowered_have_code}
 use Rattle.jz_code.specs.declared.code.NoCode.TheVariants as no
-use Rattle.jz_compiling.specs.Refused.{stack_end}
+use Rattle.jz_whole_pipeline.specs.Refused.{stack_end}
 use Rattle.jz_listing.specs.declared.compiled.Compiled.{Compiled}
 use Rattle.jz_unplaced.specs.declared.unplaced.Unplaced.{Unplaced}
 use Rattle.jasminc_compile.specs.declared.outcome.Outcome.{Outcome}

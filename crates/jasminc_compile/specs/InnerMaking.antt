@@ -9,8 +9,8 @@ use Rattle.jz_change.specs.Views.{change_of}
 use Rattle.jz_expansion.specs.Expanding.{IsExpandedAt}
 use Rattle.jz_expansion.specs.declared.expanded.Expanded.{Expanded}
 use Rattle.jz_listing.specs.declared.compiled.Compiled.{Compiled}
-use Rattle.jz_compiling.specs.declared.compiling.NotCompiled.{NotCompiled}
-use Rattle.jz_compiling.specs.Made.{IsMadeOf}
+use Rattle.jz_whole_pipeline.specs.NotCompiled.{NotCompiled}
+use Rattle.jz_whole_pipeline.specs.Made.{IsMadeOf}
 use Rattle.jz_declared.specs.Declared.{held_of}
 use Rattle.jz_without_code.specs.Without.{FirstOrAll}
 use Rattle.jz_unplaced.specs.declared.unplaced.Unplaced.{Unplaced}

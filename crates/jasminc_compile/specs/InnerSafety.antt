@@ -5,8 +5,8 @@ use Rattle.jz_tree.specs.declared.program.Program.{Program}
 use Rattle.jz_type_rows.specs.Exports.{is_exported}
 use Rattle.jz_preconditions.specs.Stating.{preconditions_of}
 use Rattle.jz_first_alarm.specs.FirstAlarms.{HasFirstAlarm}
-use Rattle.jz_safe.specs.Texts.{IsExpandedFrom}
-use Rattle.jz_safe.specs.declared.certificate.Safe.{Safe}
+use Rattle.jz_whole_pipeline.specs.Texts.{IsExpandedFrom}
+use Rattle.jz_whole_pipeline.specs.Safe.{Safe}
 use Rattle.jasminc_compile.specs.declared.safety.SafeFun.{SafeFun}
 use Rattle.jasminc_compile.specs.SafeFunctions.{IsSafeFun}
 

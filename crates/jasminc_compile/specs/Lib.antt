@@ -7,3 +7,6 @@ pub mod MakingLaws
 pub mod InnerSafety
 pub mod InnerMaking
 pub mod InnerSettling
+pub use Rattle.jasminc_check.specs.Safety as CheckSafety
+pub use Rattle.jasminc_check.specs.Ready
+pub use Rattle.jz_verdict.specs.Said

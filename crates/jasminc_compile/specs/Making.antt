@@ -9,10 +9,10 @@ use Rattle.jz_change.specs.Changes.{Change}
 use Rattle.jz_first_alarm.specs.FirstAlarms.{HasFirstAlarm}
 use Rattle.jz_listing.specs.declared.compiled.Compiled.{Compiled}
 use Rattle.jz_compiled.specs.Correct.{IsCorrect}
-use Rattle.jz_compiling.specs.Made.{IsMadeOf}
+use Rattle.jz_whole_pipeline.specs.Made.{IsMadeOf}
 use Rattle.jz_verdict.specs.Said.{IsSaid}
-use Rattle.jz_constant_time.specs.Shown.{ShowsNothingSecret}
-use Rattle.jz_safe_expansions.specs.SafeExpansions.{IsExpandedExport}
+use Rattle.jz_no_secrets.specs.Shown.{ShowsNothingSecret}
+use Rattle.jz_no_secrets.specs.SafeExpansions.{IsExpandedExport}
 use Rattle.jz_whole_pipeline.specs.Correctness.{HasPlaces}
 use Rattle.jasminc_compile.specs.declared.outcome.Unmade.{Unmade}
 use Rattle.jasminc_compile.specs.declared.outcome.Unmade.TheVariants as unmade

@@ -8,7 +8,7 @@ use Rattle.jz_expansion.specs.Expansions.{IsExpansion}
 use Rattle.jz_alloc.specs.declared.placing.NoPlace as numbered
 use Rattle.jz_code.specs.declared.code.NoCode.TheVariants as no
 use Rattle.jz_without_code.specs.Without.{IsWithoutCode}
-use Rattle.jz_compiling.specs.Refused.{stack_end, IsCodeless}
+use Rattle.jz_whole_pipeline.specs.Refused.{stack_end, IsCodeless}
 use Rattle.jz_declared.specs.Declared.{held_of}
 use Rattle.jz_unplaced.specs.declared.unplaced.Unplaced.{Unplaced}
 use Rattle.jz_unplaced.specs.Names.{refusal_of}

@@ -3,28 +3,26 @@
 ghost use Rattle.std.specs.Prelude.{IfOk, IfErr};
 ghost use Rattle.jz_data.specs.Failures.{IfRefused};
 ghost use Rattle.jz_code.specs.declared.code.NoCode.TheVariants as no;
-ghost use Rattle.jz_compiling.specs.declared.compiling.NotCompiled.TheVariants as uncompiled;
+ghost use Rattle.jz_whole_pipeline.specs.NotCompiled.TheVariants as uncompiled;
 ghost use Rattle.jz_whole_pipeline.specs.Correctness.{IsRefusedFor};
-ghost use Rattle.jasminc_expansions.specs.Ready.{IsReadyAt};
+ghost use Rattle.jasminc_check.specs.Ready.{IsReadyAt};
 ghost use Rattle.jasminc_compile.specs.InnerMaking.{IsCompiledFrom, IsRefusedAt, IsNamedAt};
 ghost use Rattle.jasminc_compile.specs.InnerMaking.{LacksAt, IsNameAt};
 ghost use Rattle.jasminc_compile.specs.InnerMaking.{IsUnmadeAt, IsSafeSomewhere, IsOutcomeAt};
 
 use crate::outcome::{Outcome, Unmade};
 use crate::safety::SafeFun;
-use jasminc_expansions::expanded_at;
+use jasminc_check::expanded_at;
 use jasminc_source::function_at;
 use jz_alloc::NoPlace;
 use jz_code::NoCode;
-use jz_compiling::NotCompiled;
 use jz_data::Failure;
 use jz_listing::Compiled;
-use jz_safe::Safe;
 use jz_tree::{Span, Text};
 use jz_types::Typed;
 use jz_unplaced::{Unplaced, named};
 use jz_verdict::said;
-use jz_whole_pipeline::compile_fun;
+use jz_whole_pipeline::{NotCompiled, Safe, compile_fun};
 use jz_without_code::first_without;
 use std::alloc::{AllocError, Global};
 

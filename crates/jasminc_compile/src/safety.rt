@@ -6,18 +6,18 @@ ghost use Rattle.jz_types.specs.TypedPrograms.{IsTypedProgram};
 ghost use Rattle.jz_texts.specs.Texts.{IsText};
 ghost use Rattle.jz_asked.specs.Asked.{alarm_of};
 ghost use Rattle.jasminc_source.specs.Exports.{WithinIfExported};
-ghost use Rattle.jasminc_expansions.specs.Ready.{IsReadyAt, IsAmong};
+ghost use Rattle.jasminc_check.specs.Ready.{IsReadyAt, IsAmong};
 ghost use Rattle.jasminc_check.specs.Safety.{HasAlarm};
 ghost use Rattle.jasminc_check.specs.InnerSafety.{IsJudgedAt, AlarmAt};
 ghost use Rattle.jasminc_compile.specs.InnerSafety.{IsSafeAt, AddsSafe};
 ghost use Rattle.jasminc_compile.specs.SafeFunctions.{AreSafe};
 
-use jasminc_expansions::expanded_at;
+use jasminc_check::expanded_at;
 use jasminc_source::{function_at, is_exported};
 use jz_asked::Alarm;
-use jz_safe::{Safe, safe};
 use jz_tree::{Failure, Seq};
 use jz_types::Typed;
+use jz_whole_pipeline::{Safe, safe};
 use std::alloc::Global;
 
 /// The expansion of the export function at a place of a text, found to have no alarm.

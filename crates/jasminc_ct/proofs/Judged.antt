@@ -15,8 +15,8 @@ use Rattle.jz_labels.proofs.Comparing.{labels_no_breach}
 use Rattle.jz_labels.proofs.OneBreach.{one_breach}
 use Rattle.jz_function_runs.specs.FunctionRuns.{plain_body}
 use Rattle.jz_one_unrolling.proofs.One.{one_unrolling}
-use Rattle.jz_one_expansion.specs.OneExpansion.{IsSame}
-use Rattle.jz_one_expansion.proofs.Expansions.{expansions_same}
+use Rattle.jz_ct.specs.OneExpansion.{IsSame}
+use Rattle.jz_ct.proofs.Expansions.{expansions_same}
 use Rattle.jz_ct.specs.Told.{breach_of, HasFirstBreach}
 use Rattle.jasminc_ct.specs.declared.breaches.FunBreach.{FunBreach}
 use Rattle.jasminc_ct.specs.Judging.{IsConstant, IsJudged, ConstantIfExported, HasBreach, YesLine, AreConstant}

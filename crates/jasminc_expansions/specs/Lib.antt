@@ -1,1 +1,2 @@
 pub mod Ready
+pub use Rattle.jz_expansion.specs.Expansions

@@ -1,3 +1,4 @@
 pub mod Ended
 pub mod OnItems
 pub mod OfTexts
+pub use Rattle.jasminc_called.proofs.Coming

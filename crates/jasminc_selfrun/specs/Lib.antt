@@ -1,3 +1,15 @@
 pub mod Summary
 pub mod Running
 pub mod Calling
+pub use Rattle.jasminc_called.specs.Answers
+pub use Rattle.jasminc_called.specs.Causes
+pub use Rattle.jasminc_called.specs.Compilation
+pub use Rattle.jasminc_called.specs.CompileAnswers
+pub use Rattle.jasminc_called.specs.CompileCauses
+pub use Rattle.jasminc_called.specs.CompileMaking
+pub use Rattle.jasminc_called.specs.CompileRefused
+pub use Rattle.jasminc_called.specs.declared.refused.Refused
+pub use Rattle.jasminc_called.specs.SafeFunctions
+pub use Rattle.jasminc_called.specs.Said
+pub use Rattle.jasminc_called.specs.declared.calling.Told
+pub use Rattle.jasminc_called.specs.Unmade

@@ -6,6 +6,8 @@ mod making;
 mod running;
 mod summing;
 
-pub use jasminc_called::{Refused, Told};
+pub use jasminc_called::{
+    Compilation, Ran, Refused, Told, Uncompiled, Unmade, compile_text, exec_text, leak_text,
+};
 pub use making::selfrun_text;
 pub use summing::Origin;

@@ -5,13 +5,13 @@ use Rattle.jz_tree.specs.Failure.{Failure}
 use Rattle.jz_tree.specs.Failure.TheVariants as failure
 use Rattle.jz_tree.specs.Failures.{IfRefused, IfAnswered}
 use Rattle.jasminc_words.specs.Wanted.{compile}
-use Rattle.jasminc_compile.specs.declared.refused.Refused.{Refused}
-use Rattle.jasminc_compile.specs.declared.refused.Refused.TheVariants as refused
-use Rattle.jasminc_compile.specs.declared.outcome.Unmade.TheVariants as unmade
-use Rattle.jasminc_compile.specs.declared.stages.Compilation.{Compilation}
+use Rattle.jasminc_selfrun.specs.CompileRefused.{Refused}
+use Rattle.jasminc_selfrun.specs.CompileRefused.TheVariants as refused
+use Rattle.jasminc_selfrun.specs.Unmade.TheVariants as unmade
+use Rattle.jasminc_selfrun.specs.Compilation.{Compilation}
 use Rattle.jasminc_source.specs.declared.unread.Unread.TheVariants as unread
-use Rattle.jasminc_compile.specs.Causes as causes
-use Rattle.jasminc_compile.specs.Answers as answers
+use Rattle.jasminc_selfrun.specs.CompileCauses as causes
+use Rattle.jasminc_selfrun.specs.CompileAnswers as answers
 use Rattle.jasminc_top.specs.declared.refusal.Status.TheVariants as status
 use Rattle.jasminc_top.specs.declared.refusal.Refusal.{Refusal}
 use Rattle.jasminc_top.specs.declared.refusal.Refusal.TheVariants.{Usage, ReadFault, Source, Interp, Disasm, Check, Ct, Compile, Exec}

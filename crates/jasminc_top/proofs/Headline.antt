@@ -10,7 +10,7 @@ use Rattle.jasminc_top.specs.Answers.{IsDue, IsDone, Gives, GivesListing}
 use Rattle.jasminc_top.specs.Runs.{Run, Due, Runs}
 use Rattle.jasminc_top.specs.Headline.{PrintsCorrect, Compiles}
 use Rattle.jasminc_top.proofs.Rows.{never_refused}
-use Rattle.jasminc_compile.proofs.Coming.{made_correct, made_shows}
+use Rattle.jasminc_selfrun.proofs.Coming.{made_correct, made_shows}
 
 pub same_command : (a b : Wanted) → Some a ≡ Some b → a ≡ b
 same_command a b e = cc

@@ -9,10 +9,10 @@ use Rattle.jasminc_words.specs.Wanted.{Wanted, compile, exec, interp, leak, disa
 use Rattle.jasminc_words.specs.Inputs.{of_seed, origin_of}
 use Rattle.jasminc_source.specs.Stage.{ComesFrom}
 use Rattle.jasminc_source.proofs.Stopping.{stage_refuses}
-use Rattle.jasminc_called.specs.Causes as causes
-use Rattle.jasminc_called.specs.Answers as answers
-use Rattle.jasminc_called.specs.declared.refused.Refused.{Refused}
-use Rattle.jasminc_called.specs.declared.calling.Told.{Told}
+use Rattle.jasminc_selfrun.specs.Causes as causes
+use Rattle.jasminc_selfrun.specs.Answers as answers
+use Rattle.jasminc_selfrun.specs.Refused.{Refused}
+use Rattle.jasminc_selfrun.specs.Told.{Told}
 use Rattle.jasminc_selfrun.specs.Calling.{main_name, main_items, SumsUpProgram}
 use Rattle.jasminc_top.specs.declared.refusal.Status.{Status}
 use Rattle.jasminc_top.specs.declared.refusal.Refusal.{Refusal}

@@ -4,7 +4,7 @@ use Rattle.std.specs.Io.KnownBytes.{Appends}
 use Rattle.jz_gen.specs.Programs.{program}
 use Rattle.jz_listing.specs.declared.compiled.Compiled.{Compiled}
 use Rattle.jasminc_words.specs.Wanted.{Wanted, compile, exec, interp, leak, disasm, check, ct, gen, selfrun}
-use Rattle.jasminc_called.specs.Answers as called
+use Rattle.jasminc_selfrun.specs.Answers as called
 use Rattle.jasminc_selfrun.specs.Calling.{main_name, main_items, SumsUpProgram}
 use Rattle.jasminc_top.specs.declared.refusal.Status.{Status}
 use Rattle.jasminc_top.specs.declared.refusal.Status.TheVariants as status

@@ -26,13 +26,13 @@ use Rattle.jasminc_check.specs.Causes as checks
 use Rattle.jasminc_ct.specs.declared.refused.Refused as judging
 use Rattle.jasminc_ct.specs.declared.refused.Refused.TheVariants as judged
 use Rattle.jasminc_ct.specs.Causes as judgements
-use Rattle.jasminc_compile.specs.declared.refused.Refused as making
-use Rattle.jasminc_compile.specs.declared.refused.Refused.TheVariants as made
-use Rattle.jasminc_compile.specs.declared.outcome.Unmade.TheVariants as unmade
-use Rattle.jasminc_compile.specs.Causes as makings
-use Rattle.jasminc_called.specs.declared.refused.Refused as calling
-use Rattle.jasminc_called.specs.declared.refused.Refused.TheVariants as uncalled
-use Rattle.jasminc_called.specs.Causes as calls
+use Rattle.jasminc_selfrun.specs.CompileRefused as making
+use Rattle.jasminc_selfrun.specs.CompileRefused.TheVariants as made
+use Rattle.jasminc_selfrun.specs.Unmade.TheVariants as unmade
+use Rattle.jasminc_selfrun.specs.CompileCauses as makings
+use Rattle.jasminc_selfrun.specs.Refused as calling
+use Rattle.jasminc_selfrun.specs.Refused.TheVariants as uncalled
+use Rattle.jasminc_selfrun.specs.Causes as calls
 use Rattle.jz_disasm_text.specs.declared.Fault.{Fault}
 use Rattle.jz_disasm_text.specs.declared.Fault.TheVariants as fault
 use Rattle.jasminc_top.specs.Answers.{Cause, HasInput, HasText, WasRead, IsDue, IsUsage, IsNoCommand, IsQuiet, IsToldBy, IsToldAs, IsResult, Gives}

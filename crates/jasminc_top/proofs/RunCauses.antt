@@ -15,10 +15,10 @@ use Rattle.jasminc_words.proofs.NumbersFit.{words_fit}
 use Rattle.jasminc_source.specs.Stage.{ComesFrom}
 use Rattle.jasminc_source.proofs.Stopping.{stage_refuses}
 use Rattle.jasminc_runs.specs.declared.telling.Ran.{Ran}
-use Rattle.jasminc_called.specs.Causes as causes
-use Rattle.jasminc_called.specs.Answers as answers
-use Rattle.jasminc_called.specs.declared.refused.Refused.{Refused}
-use Rattle.jasminc_called.specs.declared.calling.Told.{Told}
+use Rattle.jasminc_selfrun.specs.Causes as causes
+use Rattle.jasminc_selfrun.specs.Answers as answers
+use Rattle.jasminc_selfrun.specs.Refused.{Refused}
+use Rattle.jasminc_selfrun.specs.Told.{Told}
 use Rattle.jasminc_top.specs.declared.refusal.Status.{Status}
 use Rattle.jasminc_top.specs.declared.refusal.Refusal.{Refusal}
 use Rattle.jasminc_top.specs.declared.refusal.Refusal.TheVariants.{Usage, ReadFault, Source, Interp, Disasm, Check, Ct, Compile, Exec}

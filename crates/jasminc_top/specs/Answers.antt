@@ -15,16 +15,16 @@ use Rattle.jasminc_check.specs.Causes as checks
 use Rattle.jasminc_check.specs.Answers as checked
 use Rattle.jasminc_ct.specs.Causes as judgements
 use Rattle.jasminc_ct.specs.Answers as judged
-use Rattle.jasminc_compile.specs.Causes as makings
-use Rattle.jasminc_compile.specs.Answers as made_of
+use Rattle.jasminc_selfrun.specs.CompileCauses as makings
+use Rattle.jasminc_selfrun.specs.CompileAnswers as made_of
 use Rattle.jasminc_interp.specs.Causes as runs
 use Rattle.jasminc_interp.specs.Answers as answers
 use Rattle.jasminc_interp.specs.declared.telling.Ran as source
 use Rattle.jasminc_interp.specs.declared.telling.Ran.TheVariants as source_ran
 use Rattle.jasminc_runs.specs.declared.telling.Ran.{Ran}
 use Rattle.jasminc_runs.specs.declared.telling.Ran.TheVariants as ran
-use Rattle.jasminc_called.specs.Causes as calls
-use Rattle.jasminc_called.specs.Answers as called
+use Rattle.jasminc_selfrun.specs.Causes as calls
+use Rattle.jasminc_selfrun.specs.Answers as called
 use Rattle.jasminc_selfrun.specs.Calling.{main_name, main_items, SumsUpProgram}
 use Rattle.jasminc_top.specs.Refusals.{status_of, line_of, stage_of, all_stages}
 use Rattle.jasminc_top.specs.Told.{SourceTold}

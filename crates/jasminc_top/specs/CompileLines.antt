@@ -6,10 +6,10 @@ use Rattle.jz_unplaced.specs.declared.unplaced.Named.{Named}
 use Rattle.jz_unplaced.specs.declared.unplaced.Holder.{Holder}
 use Rattle.jz_unplaced.specs.declared.unplaced.Unplaced.{Unplaced}
 use Rattle.jasminc_check.specs.AlarmLines.{alarm_line}
-use Rattle.jasminc_compile.specs.declared.outcome.Unmade.{Unmade}
-use Rattle.jasminc_compile.specs.declared.outcome.Unmade.TheVariants as unmade
-use Rattle.jasminc_compile.specs.declared.refused.Refused.{Refused}
-use Rattle.jasminc_compile.specs.declared.refused.Refused.TheVariants as refused
+use Rattle.jasminc_selfrun.specs.Unmade.{Unmade}
+use Rattle.jasminc_selfrun.specs.Unmade.TheVariants as unmade
+use Rattle.jasminc_selfrun.specs.CompileRefused.{Refused}
+use Rattle.jasminc_selfrun.specs.CompileRefused.TheVariants as refused
 use Rattle.jasminc_top.specs.InterpLines.{unread_text, limit_text, operations_line, frame_line}
 use Rattle.jasminc_top.specs.Lines.{place_text, need_text, texts_or_dash}
 

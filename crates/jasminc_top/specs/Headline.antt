@@ -10,7 +10,7 @@ use Rattle.x64_machine.specs.Steps.{Config}
 use Rattle.jz_correct.specs.Starts.{IsStart}
 use Rattle.jz_compiled.specs.Correct.{AreCorrect}
 use Rattle.jz_compiled.specs.Matching.{Matches}
-use Rattle.jz_verdict.specs.Said.{IsSaid}
+use Rattle.jasminc_selfrun.specs.Said.{IsSaid}
 use Rattle.jz_disasm_text.specs.Shown.{Shows}
 use Rattle.jz_gen.specs.Programs as programs
 use Rattle.jasminc_words.specs.Wanted.{Called, Wanted, compile, exec, interp, leak, disasm}
@@ -18,14 +18,14 @@ use Rattle.jasminc_words.specs.Wanted.{check, ct, gen, selfrun}
 use Rattle.jasminc_check.specs.Answers as checked
 use Rattle.jasminc_ct.specs.Answers as judged
 use Rattle.jasminc_source.specs.Texts.{TypesAs}
-use Rattle.jasminc_compile.specs.SafeFunctions.{exports_of}
-use Rattle.jasminc_compile.specs.Making.{ShowsIfListed}
+use Rattle.jasminc_selfrun.specs.SafeFunctions.{exports_of}
+use Rattle.jasminc_selfrun.specs.CompileMaking.{ShowsIfListed}
 use Rattle.jasminc_interp.specs.Answers as answers
 use Rattle.jasminc_interp.specs.declared.telling.Ran as source
 use Rattle.jasminc_calls.specs.Calls.{argument_words}
 use Rattle.jasminc_steps.specs.Starting.{return_slot}
 use Rattle.jasminc_runs.specs.declared.telling.Ran.{Ran}
-use Rattle.jasminc_called.specs.Answers as called
+use Rattle.jasminc_selfrun.specs.Answers as called
 use Rattle.jasminc_selfrun.specs.Calling.{main_name, main_items, SumsUpProgram}
 use Rattle.jasminc_top.specs.Told.{SourceTold, SinkTold}
 use Rattle.jasminc_top.specs.Answers.{HasFile, IsToldBy, IsToldAs}

@@ -1,7 +1,7 @@
 -- The lines that tell why a function of a text is not called, without their line feeds.
 use Rattle.std.specs.Prelude.{List, ℕ, codes}
-use Rattle.jasminc_called.specs.declared.refused.Refused.{Refused}
-use Rattle.jasminc_called.specs.declared.refused.Refused.TheVariants as refused
+use Rattle.jasminc_selfrun.specs.Refused.{Refused}
+use Rattle.jasminc_selfrun.specs.Refused.TheVariants as refused
 use Rattle.jasminc_top.specs.CompileLines.{uncompiled_text}
 use Rattle.jasminc_top.specs.InterpLines.{unknown_text, unmet_text}
 

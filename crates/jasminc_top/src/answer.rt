@@ -15,13 +15,11 @@ ghost use Rattle.jasminc_top.specs.Answers.{IsShortInput, IsInputRead, InputRefu
 ghost use Rattle.jasminc_top.specs.Answers.{IsToldBy, IsToldAs, IsDone, After, Performs};
 
 use crate::refusal::{Refusal, Status};
-use jasminc_called::{Ran, Told, exec_text, leak_text};
 use jasminc_check::check_text;
-use jasminc_compile::{Compilation, compile_text};
 use jasminc_ct::ct_text;
 use jasminc_interp as source;
 use jasminc_interp::interp_text;
-use jasminc_selfrun::selfrun_text;
+use jasminc_selfrun::{Compilation, Ran, Told, compile_text, exec_text, leak_text, selfrun_text};
 use jasminc_source::as_refused;
 use jasminc_words::{Call, Input, Request, request_of};
 use jz_disasm_text::disasm_text;

@@ -9,7 +9,7 @@ ghost use Rattle.jasminc_top.specs.CompileLines.{unmade_text, uncompiled_text};
 use crate::interp_lines::{write_frame, write_fun_limit, write_no_operations, write_unread};
 use crate::lines::{place_name, write_needs};
 use jasminc_check::write_alarm;
-use jasminc_compile::{Refused, Unmade};
+use jasminc_selfrun::{Uncompiled, Unmade};
 use jz_text::write_span;
 use jz_tree::Seq;
 use jz_unplaced::{Holder, Named, Unplaced};
@@ -79,13 +79,13 @@ fn write_unmade(line: &mut Vec<u8>, unmade: &Unmade) -> Result<(), AllocError>
     }
 }
 
-pub fn write_uncompiled(line: &mut Vec<u8>, refused: &Refused) -> Result<(), AllocError>
+pub fn write_uncompiled(line: &mut Vec<u8>, refused: &Uncompiled) -> Result<(), AllocError>
     ensures { OnOk result (line.new.items ≡ line.old.items ++ uncompiled_text refused.now) }
 {
     match refused {
-        Refused::Unread(unread) => write_unread(line, *unread),
-        Refused::Limit(passed) => write_fun_limit(line, passed),
-        Refused::Alarm(alarm) => write_alarm(line, alarm),
-        Refused::Making(unmade) => write_unmade(line, unmade),
+        Uncompiled::Unread(unread) => write_unread(line, *unread),
+        Uncompiled::Limit(passed) => write_fun_limit(line, passed),
+        Uncompiled::Alarm(alarm) => write_alarm(line, alarm),
+        Uncompiled::Making(unmade) => write_unmade(line, unmade),
     }
 }

@@ -13,12 +13,10 @@ use crate::ct_lines::write_breached;
 use crate::disasm_lines::write_disasm_fault;
 use crate::interp_lines::write_refused;
 use crate::run_lines::write_uncalled;
-use jasminc_called as calling;
 use jasminc_check as checking;
-use jasminc_compile as making;
-use jasminc_compile::Unmade;
 use jasminc_ct as judging;
 use jasminc_interp::Refused;
+use jasminc_selfrun::{Refused as Uncalled, Uncompiled, Unmade};
 use jasminc_source::Unread;
 use jz_disasm_text::Fault;
 use std::alloc::{AllocError, Global};
@@ -62,9 +60,9 @@ pub enum Refusal {
     /// An export function of a text is not constant time.
     Ct(judging::Refused),
     /// An export function of a text is not compiled.
-    Compile(making::Refused),
+    Compile(Uncompiled),
     /// What an export function of a text is compiled to is not run, or nothing of it is shown.
-    Exec(calling::Refused),
+    Exec(Uncalled),
 }
 
 fn status_of_unread(unread: Unread) -> Status
@@ -132,25 +130,25 @@ fn status_of_unmade(unmade: &Unmade) -> Status
 }
 
 /// The status of a text whose functions are not all compiled.
-fn status_of_uncompiled(refused: &making::Refused) -> Status
+fn status_of_uncompiled(refused: &Uncompiled) -> Status
     ensures { result ≡ status_of_uncompiled refused.now }
 {
     match refused {
-        making::Refused::Unread(unread) => status_of_unread(*unread),
-        making::Refused::Limit(_) => Status::Limit,
-        making::Refused::Alarm(_) => Status::Alarm,
-        making::Refused::Making(unmade) => status_of_unmade(unmade),
+        Uncompiled::Unread(unread) => status_of_unread(*unread),
+        Uncompiled::Limit(_) => Status::Limit,
+        Uncompiled::Alarm(_) => Status::Alarm,
+        Uncompiled::Making(unmade) => status_of_unmade(unmade),
     }
 }
 
 /// The status of a function that is not called.
-fn status_of_uncalled(refused: &calling::Refused) -> Status
+fn status_of_uncalled(refused: &Uncalled) -> Status
     ensures { result ≡ status_of_uncalled refused.now }
 {
     match refused {
-        calling::Refused::Compile(uncompiled) => status_of_uncompiled(uncompiled),
-        calling::Refused::NoFunction(_) => Status::NoFunction,
-        calling::Refused::Items | calling::Refused::Unmet(_) => Status::Precondition,
+        Uncalled::Compile(uncompiled) => status_of_uncompiled(uncompiled),
+        Uncalled::NoFunction(_) => Status::NoFunction,
+        Uncalled::Items | Uncalled::Unmet(_) => Status::Precondition,
     }
 }
 

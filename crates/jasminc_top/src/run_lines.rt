@@ -5,7 +5,7 @@ ghost use Rattle.jasminc_top.specs.RunLines.{uncalled_text};
 
 use crate::compile_lines::write_uncompiled;
 use crate::interp_lines::{write_unknown, write_unmet};
-use jasminc_called::Refused;
+use jasminc_selfrun::Refused;
 use std::alloc::AllocError;
 
 pub fn write_uncalled(line: &mut Vec<u8>, refused: &Refused) -> Result<(), AllocError>

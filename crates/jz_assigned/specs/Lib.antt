@@ -1,2 +1,3 @@
 pub mod AssignedLaws
 pub use Rattle.jz_standing.specs.Standing
+pub use Rattle.jz_unstuck.specs.MetLaws

@@ -22,9 +22,9 @@ use Rattle.jz_type_names.specs.Order.{unless}
 use Rattle.jz_type_names.specs.Scopes.{variables_of, text_of}
 use Rattle.jz_type_names.specs.Parts.{whole_left, left_vars}
 use Rattle.jz_type_names.proofs.Empty.{both, passed}
-use Rattle.jz_type_rows.specs.Callees.{names_set, is_written}
-use Rattle.jz_type_rows.specs.Copies as copies
-use Rattle.jz_type_rows.specs.Copies.{are_one, is_one, passed_as, gets_back, numbers_back, is_written_at, passed_at, passed_from, not_back, is_twice, passed_twice, span_of_var}
+use Rattle.jz_run_laws.specs.Callees.{names_set, is_written}
+use Rattle.jz_run_laws.specs.Copies as copies
+use Rattle.jz_run_laws.specs.Copies.{are_one, is_one, passed_as, gets_back, numbers_back, is_written_at, passed_at, passed_from, not_back, is_twice, passed_twice, span_of_var}
 use Rattle.jz_judgement.proofs.Nothing.{none_not, same_some}
 use Rattle.jz_meaning.specs.declared.access.Kind.TheVariants as kind
 use Rattle.jz_meaning.specs.States.{Key, same_key}

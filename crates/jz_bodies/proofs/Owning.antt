@@ -12,7 +12,7 @@ use Rattle.jz_tree.specs.declared.program.Fun.{Fun}
 use Rattle.jz_tree.specs.declared.program.Param.{Param}
 use Rattle.jz_tree.specs.declared.program.Program.{Program}
 use Rattle.jz_type_names.specs.Scopes.{variables_of}
-use Rattle.jz_type_rows.specs.Callees.{names_set, is_written}
+use Rattle.jz_run_laws.specs.Callees.{names_set, is_written}
 use Rattle.jz_meaning.specs.declared.access.Kind.TheVariants as kind
 use Rattle.jz_meaning.specs.States.{Key}
 use Rattle.jz_meaning.specs.Values.{Ref, key_of, cell_key, ref_of}

@@ -39,16 +39,16 @@ use Rattle.jz_type_sizes.specs.declared.operators.Group.TheVariants as group
 use Rattle.jz_type_sizes.specs.Operators.{group_of}
 use Rattle.jz_type_sizes.specs.Calls.{same_length, same_decl, agrees, is_declared}
 use Rattle.jz_type_names.specs.Parts.{is_skip}
-use Rattle.jz_type_rows.specs.Callees.{of_callee, entered_by, left_by}
-use Rattle.jz_type_rows.specs.Matching.{is_word_value, word_layer}
+use Rattle.jz_run_laws.specs.Callees.{of_callee, entered_by, left_by}
+use Rattle.jz_run_laws.specs.Matching.{is_word_value, word_layer}
 use Rattle.jz_judgement.specs.Places.{Place, integer, truth, word, TakesWord, TakesCarry, count_place}
 use Rattle.jz_judgement.specs.HasType as judged
 use Rattle.jz_judgement.specs.HasType.{value, HasType, Types, Accesses, Operates}
 use Rattle.jz_judgement.specs.WellTyped.{InPairs, PassedAs, PassedBy, Passed, GivenAs, Given, Returned}
 use Rattle.jz_judgement.specs.WellTyped as typed
 use Rattle.jz_judgement.proofs.Nothing.{size_same, none_not, same_some}
-use Rattle.jz_types.specs.Guarantees.{Enters, Leaves}
-use Rattle.jz_types.specs.Carried.{vars_in}
+use Rattle.jz_run_laws.specs.Guarantees.{Enters, Leaves}
+use Rattle.jz_run_laws.specs.Carried.{vars_in}
 use Rattle.jz_meaning.specs.declared.access.Kind.TheVariants as kind
 use Rattle.jz_meaning.specs.Values.{ref_of}
 use Rattle.jz_tree.specs.Operators.{joins}

@@ -19,7 +19,7 @@ use Rattle.jz_type_names.specs.Scopes.{variables_of}
 use Rattle.jz_judgement.specs.Places.{Place, index, stated, Goes, IsArrayOf}
 use Rattle.jz_judgement.specs.HasType as judged
 use Rattle.jz_judgement.specs.HasType.{AccessLayer, value, HasType, Types, Accesses}
-use Rattle.jz_types.specs.Carried.{vars_in}
+use Rattle.jz_run_laws.specs.Carried.{vars_in}
 use Rattle.jz_meaning.specs.Values.{Ref, ref_of}
 use Rattle.jz_run_laws.proofs.Sizes.{types_of, left_type, right_type}
 use Rattle.jz_texts.proofs.Lists.{parted}

@@ -19,7 +19,7 @@ use Rattle.jz_type_names.specs.Scopes.{variables_of}
 use Rattle.jz_type_names.specs.Names.{var_decl, param_decl, ret_decls}
 use Rattle.jz_judgement.proofs.Nothing.{same_some, none_not}
 use Rattle.jz_judgement.specs.Places.{Place, KindGoes, Goes, ArrayKind, IsArrayOf}
-use Rattle.jz_types.specs.Carried.{Carries, declared_in}
+use Rattle.jz_run_laws.specs.Carried.{Carries, declared_in}
 use Rattle.jz_meaning.specs.declared.access.Kind.TheVariants as kind
 use Rattle.jz_meaning.specs.States.{Key}
 use Rattle.jz_meaning.specs.Values.{Ref, key_of, ref_of, declared_kind, kind_or}

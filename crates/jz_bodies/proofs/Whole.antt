@@ -46,12 +46,12 @@ use Rattle.jz_type_sizes.specs.declared.signatures.Role.TheVariants as role
 use Rattle.jz_type_sizes.specs.Intrinsics.{size_of_intrinsic}
 use Rattle.jz_type_sizes.specs.Calls.{is_callee}
 use Rattle.jz_type_sizes.specs.Mismatches.{among, callee_from}
-use Rattle.jz_type_rows.specs.declared.callee.Callee.{Callee}
-use Rattle.jz_type_rows.specs.Callees.{callee_of, callee_by, entered_by, left_by}
-use Rattle.jz_type_rows.specs.Copies.{place_of_array, array_arg, array_left, given_results, numbers_back, passed_from, not_back, not_passed, passed_twice, passed_wrongly, wrong_arguments, copied_by_call, copied_by}
-use Rattle.jz_type_rows.specs.Exports.{is_exported, has_shape, is_word_param, is_word_result, misshapen_places}
-use Rattle.jz_type_rows.specs.Matching.{needs_row}
-use Rattle.jz_type_rows.specs.Programs.{of_statement, in_body, in_functions, in_statements}
+use Rattle.jz_run_laws.specs.Callee.{Callee}
+use Rattle.jz_run_laws.specs.Callees.{callee_of, callee_by, entered_by, left_by}
+use Rattle.jz_run_laws.specs.Copies.{place_of_array, array_arg, array_left, given_results, numbers_back, passed_from, not_back, not_passed, passed_twice, passed_wrongly, wrong_arguments, copied_by_call, copied_by}
+use Rattle.jz_run_laws.specs.Exports.{is_exported, has_shape, is_word_param, is_word_result, misshapen_places}
+use Rattle.jz_run_laws.specs.Matching.{needs_row}
+use Rattle.jz_run_laws.specs.Programs.{of_statement, in_body, in_functions, in_statements}
 use Rattle.jz_resolve.specs.Numbering.{values_of}
 use Rattle.jz_resolve.specs.Numbering as numbering
 use Rattle.jz_resolve.specs.Programs.{counted_ret, resolved_whole, resolved_program}
@@ -59,13 +59,13 @@ use Rattle.jz_judgement.specs.Places.{integer, truth, unsized}
 use Rattle.jz_judgement.specs.WellTyped as typed
 use Rattle.jz_judgement.specs.WellTyped.{InPairs, Passed, Given, Returned, Calls, Instructs, Output, Operand, role_place, RightSide, WellTyped, WellTypedIn, IsWellTyped}
 use Rattle.jz_judgement.proofs.Nothing.{none_not}
-use Rattle.jz_types.specs.TypedPrograms.{IsTypedProgram}
-use Rattle.jz_types.specs.declared.fault.TypeRule.TheVariants as rule
-use Rattle.jz_types.specs.Guarantees as guarantees
-use Rattle.jz_types.specs.Guarantees.{HasRow, HasCopies, HasRows}
-use Rattle.jz_types.specs.Carried.{vars_in, used_by, declared_in, Carries}
-use Rattle.jz_types.proofs.RowsHeld.{rows_held}
-use Rattle.jz_types.proofs.ProgramsKept.{decl_known}
+use Rattle.jz_run_laws.specs.TypedPrograms.{IsTypedProgram}
+use Rattle.jz_run_laws.specs.TypeRule.TheVariants as rule
+use Rattle.jz_run_laws.specs.Guarantees as guarantees
+use Rattle.jz_run_laws.specs.Guarantees.{HasRow, HasCopies, HasRows}
+use Rattle.jz_run_laws.specs.Carried.{vars_in, used_by, declared_in, Carries}
+use Rattle.jz_run_laws.proofs.RowsHeld.{rows_held}
+use Rattle.jz_run_laws.proofs.ProgramsKept.{decl_known}
 use Rattle.jz_meaning.specs.declared.access.Kind.TheVariants as kind
 use Rattle.jz_meaning.specs.States.{Value}
 use Rattle.jz_meaning.specs.Values.{ref_of}

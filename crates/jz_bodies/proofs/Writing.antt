@@ -20,14 +20,14 @@ use Rattle.jz_type_names.specs.Kinds.{Known, known_of, kind_of, is_array_kind, w
 use Rattle.jz_type_names.specs.Kinds as names
 use Rattle.jz_type_names.specs.Scopes.{variables_of, text_of}
 use Rattle.jz_type_names.specs.Parts.{layer_of, statements_of, set_by, left_exprs, left_vars}
-use Rattle.jz_type_rows.specs.Callees.{set_in, names_set, is_written}
+use Rattle.jz_run_laws.specs.Callees.{set_in, names_set, is_written}
 use Rattle.jz_judgement.specs.Places.{Place, index, word, unsized, IsArrayOf}
 use Rattle.jz_judgement.specs.HasType as judged
 use Rattle.jz_judgement.specs.HasType.{Term, value, HasType}
 use Rattle.jz_judgement.specs.Lefts as lefts
 use Rattle.jz_judgement.specs.Lefts.{Wants, Leaves, Holds, Takes, IsSound, IsFlag, IsProduct, value_term, Values}
 use Rattle.jz_judgement.proofs.Nothing.{some_not}
-use Rattle.jz_types.specs.Carried.{vars_in}
+use Rattle.jz_run_laws.specs.Carried.{vars_in}
 use Rattle.jz_meaning.specs.declared.access.Kind as meant
 use Rattle.jz_meaning.specs.declared.access.Kind.TheVariants as kind
 use Rattle.jz_meaning.specs.Values.{ref_of}

@@ -6,8 +6,8 @@ use Rattle.jz_tree.specs.declared.program.Fun.{Fun}
 use Rattle.jz_tree.specs.declared.program.Program.{Program}
 use Rattle.jz_type_names.specs.Scopes.{variables_of}
 use Rattle.jz_type_names.specs.Kinds.{same_size}
-use Rattle.jz_type_rows.specs.Callees.{names_set, is_written}
-use Rattle.jz_types.specs.Carried.{declared_in}
+use Rattle.jz_run_laws.specs.Callees.{names_set, is_written}
+use Rattle.jz_run_laws.specs.Carried.{declared_in}
 use Rattle.jz_meaning.specs.declared.access.Kind.{Kind}
 use Rattle.jz_meaning.specs.declared.access.Kind.TheVariants as kind
 use Rattle.jz_meaning.specs.States.{same_key}

@@ -3,8 +3,8 @@ use Rattle.std.specs.Prelude.{◌≡◌, true, List, All}
 use Rattle.jz_tree.specs.Memory.{Memory}
 use Rattle.jz_tree.specs.declared.program.Fun.{Fun}
 use Rattle.jz_tree.specs.declared.program.Program.{Program}
-use Rattle.jz_type_rows.specs.Exports.{is_exported}
-use Rattle.jz_types.specs.TypedPrograms.{IsTypedProgram}
+use Rattle.jz_run_laws.specs.Exports.{is_exported}
+use Rattle.jz_run_laws.specs.TypedPrograms.{IsTypedProgram}
 use Rattle.jz_meaning.specs.States.{Value, Key}
 use Rattle.jz_meaning.specs.Shapes.{HoldsSorts}
 use Rattle.jz_meaning.specs.Runs.{IsInput, entry_state, body_of}

@@ -22,7 +22,7 @@ use Rattle.jz_place.specs.Bodies.{body_of}
 use Rattle.jz_correct.specs.Starts.{MeetsPreconditions, IsStart}
 use Rattle.jz_correct.specs.Agreement.{NeverFaults, EndsWith}
 use Rattle.jz_correct.specs.Agreement.{step_bound}
-use Rattle.jz_stack.specs.Laying.{frame_of}
+use Rattle.jz_code.specs.Laying.{frame_of}
 use Rattle.jz_code.specs.declared.code.MachineCode.{MachineCode}
 
 -- a compiled function has these bytes, so many instructions, and this frame

@@ -18,7 +18,7 @@ use Rattle.jz_first_alarm.specs.FirstAlarms.{HasFirstAlarm}
 use Rattle.jz_never_stuck.specs.Safety.{HasNoAlarm, SharesHead}
 use Rattle.jz_expanded_heads.proofs.Heads.{heads_are_fine}
 use Rattle.jz_safe.proofs.Alarms.{no_alarm}
-use Rattle.jz_safe_expansions.proofs.Whole.{source_never}
+use Rattle.jz_safe.proofs.Whole.{source_never}
 use Rattle.jasminc_expansions.proofs.Typing.{text_text}
 use Rattle.jasminc_check.specs.Safety.{IsSafe, SafeIfExported, SafeLine, AreSafe}
 use Rattle.jz_checked.specs.CheckedLaws.{IsNeverStuck, SafeIsNeverStuck, CheckedIsNeverStuck}

@@ -8,7 +8,7 @@ use Rattle.jz_tree.specs.declared.program.Program.{Program}
 use Rattle.jz_leak.specs.declared.transformer.Form.TheVariants as form
 use Rattle.jz_leak.specs.declared.transformer.Out.TheVariants as out
 use Rattle.jz_meaning.specs.Runs.{body_of}
-use Rattle.jz_inline.specs.Functions.{own_names}
+use Rattle.jz_frames.specs.Functions.{own_names}
 use Rattle.jz_listing.specs.declared.compiled.Compiled.{Compiled}
 use Rattle.jz_correct.specs.Registers.{argument_registers, result_registers}
 use Rattle.jz_correct.specs.Frames.{saved_of}

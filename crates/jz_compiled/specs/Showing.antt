@@ -21,8 +21,8 @@ use Rattle.jz_type_names.specs.Parts.{names_in}
 use Rattle.jz_meaning.specs.Values.{ref_of}
 use Rattle.jz_meaning.specs.Statements.{Operation, assign, instruction, Call, Block}
 use Rattle.jz_pass.specs.Copying.{copies}
-use Rattle.jz_inline.specs.Names.{Names}
-use Rattle.jz_inline.specs.Calls.{names_of_callee}
+use Rattle.jz_frames.specs.Names.{Names}
+use Rattle.jz_frames.specs.Calls.{names_of_callee}
 use Rattle.jz_listing.specs.declared.compiled.Compiled.{Compiled}
 use Rattle.jz_correct.specs.Frames.{saved_slots, from_entry}
 use Rattle.jz_compiled.specs.Layout.{Name, Place, layout_end}

@@ -1,2 +1,3 @@
 pub mod Expanded
 pub mod Codeless
+pub use Rattle.jz_signature.proofs.StackLemmas

@@ -8,7 +8,7 @@ use Rattle.jz_change.specs.Views.{change_of}
 use Rattle.jz_listing.specs.declared.compiled.Compiled.{Compiled}
 use Rattle.jz_correct.specs.Registers.{argument_registers, result_registers}
 use Rattle.jz_code.specs.declared.code.MachineCode.{MachineCode}
-use Rattle.jz_called.specs.Called.{HasCode}
+use Rattle.jz_joined.specs.Called.{HasCode}
 use Rattle.jz_compiled.specs.Lines.{AreArgumentLines, AreResultLines, listed_preconditions}
 use Rattle.jz_compiling.specs.declared.compiling.Both.{Both}
 use Rattle.jz_compiling.specs.declared.compiling.Head.{Head}

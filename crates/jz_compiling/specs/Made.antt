@@ -19,7 +19,7 @@ use Rattle.jz_lowering.specs.Functions.{IsFunctionLowered, KeepsRuns}
 use Rattle.jz_code.specs.declared.code.MachineCode.{MachineCode}
 use Rattle.jz_codable.specs.Ready.{IsReady}
 use Rattle.jz_code.specs.Made.{IsCodeOf}
-use Rattle.jz_called.specs.Called.{HasCode}
+use Rattle.jz_joined.specs.Called.{HasCode}
 use Rattle.jz_compiled.specs.Lines.{AreArgumentLines, AreResultLines, listed_preconditions}
 use Rattle.jz_compiled.specs.Matching.{CarriesOver}
 use Rattle.jz_signature.specs.Laws.{IsUseOf}

@@ -10,9 +10,9 @@ use Rattle.jz_change.specs.Changes.{Change, map_of}
 use Rattle.jz_pass.specs.Laws.{Follows, has_ended, was_cut}
 use Rattle.jz_inline.specs.Functions.{Given, runs_of, body_runs}
 use Rattle.jz_function_runs.specs.FunctionRuns.{plain_body, alike_where}
-use Rattle.jz_joined.specs.Making.{IsAsked, IsExpandedTo}
-use Rattle.jz_expanded_runs.proofs.Followed.{expansions_keep_runs}
-use Rattle.jz_never_stuck.specs.Safety.{IsFineFunction}
+use Rattle.jz_safe_expansions.specs.Making.{IsAsked, IsExpandedTo}
+use Rattle.jz_safe_expansions.proofs.Followed.{expansions_keep_runs}
+use Rattle.jz_safe_expansions.specs.Safety.{IsFineFunction}
 use Rattle.jz_equal_leaks.specs.Laws.{AreEqualAtPublic, IsFixedFunction, LeakTheSame}
 use Rattle.jz_equal_leaks.proofs.Entry.{leaks_same}
 use Rattle.jz_fixed.proofs.FixedBodies.{function_fixed}

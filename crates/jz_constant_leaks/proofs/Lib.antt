@@ -1,1 +1,2 @@
 pub mod Alike
+pub use Rattle.jz_ct.proofs.Expansions

@@ -1,1 +1,2 @@
 pub mod Shown
+pub use Rattle.jz_constant_leaks.specs.SafeExpansions

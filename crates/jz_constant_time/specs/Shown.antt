@@ -13,8 +13,8 @@ use Rattle.jz_correct.specs.Starts.{IsStart}
 use Rattle.jz_compiled.specs.Matching.{values_of}
 use Rattle.jz_joined.specs.Making.{IsMade}
 use Rattle.jz_equal_leaks.specs.Laws.{AreEqualAtPublic}
-use Rattle.jz_ct.specs.Told.{IsConstantTime}
-use Rattle.jz_safe_expansions.specs.SafeExpansions.{IsExpandedExport}
+use Rattle.jz_constant_leaks.specs.Told.{IsConstantTime}
+use Rattle.jz_constant_leaks.specs.SafeExpansions.{IsExpandedExport}
 
 -- what is seen of the bytes from this state on in so many steps
 abbrev pub seen_of : Compiled → ℕ → Config → ℕ → List Event

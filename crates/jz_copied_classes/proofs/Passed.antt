@@ -54,8 +54,8 @@ use Rattle.jz_meaning.specs.Statements.{Operation}
 use Rattle.jz_copied_types.proofs.Copying.{known_in}
 use Rattle.jz_kept_classes.specs.Classes.{KeepsClass, the_same}
 use Rattle.jz_kept_classes.proofs.Kept.{test_kept}
-use Rattle.jz_row_classes.specs.RowClasses.{AreOperands, IsOneClassed}
-use Rattle.jz_row_classes.proofs.Statements.{assignments_have_classes}
+use Rattle.jz_kept_rows.specs.RowClasses.{AreOperands, IsOneClassed}
+use Rattle.jz_kept_rows.proofs.Statements.{assignments_have_classes}
 use Rattle.jz_kept_rows.specs.KeptRows.{IsRowed}
 use Rattle.jz_kept_rows.proofs.Operations.{one_stays}
 use Rattle.jz_copied_classes.proofs.Copied.{copies_turned, copied_left}

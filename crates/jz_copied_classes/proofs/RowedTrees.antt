@@ -46,8 +46,8 @@ use Rattle.jz_bodies.proofs.Whole.{all_known}
 use Rattle.jz_typed_runs.specs.TypedTexts.{IsTypedText}
 use Rattle.jz_stuck_runs.specs.Sizes.{gives_byte, HasOneSize}
 use Rattle.jz_stuck_runs.proofs.Sizes.{size_law}
-use Rattle.jz_row_classes.specs.RowClasses.{HasSize, IsClassedTest}
-use Rattle.jz_row_classes.proofs.Statements.{value_classed, instruction_classed, branch_classed, loop_classed}
+use Rattle.jz_kept_rows.specs.RowClasses.{HasSize, IsClassedTest}
+use Rattle.jz_kept_rows.proofs.Statements.{value_classed, instruction_classed, branch_classed, loop_classed}
 use Rattle.jz_kept_rows.specs.KeptRows.{IsRowed}
 
 some_there : {A : Type 0} (o : Option A) → is_some o ≡ true → (x : A) × (o ≡ Some x)

@@ -13,7 +13,7 @@ use Rattle.jz_tree.specs.declared.program.Param.{Param}
 use Rattle.jz_type_names.specs.Kinds.{known_of, is_inline_int}
 use Rattle.jz_meaning.specs.Statements.{array_of}
 use Rattle.jz_meaning.specs.Values.{Ref, ref_of}
-use Rattle.jz_bodies.specs.Calls.{is_array, IsNew, AreApart, params_of, vars_of}
+use Rattle.jz_inline.specs.BodiesCalls.{is_array, IsNew, AreApart, params_of, vars_of}
 use Rattle.jz_inline.specs.Names.{Names}
 use Rattle.jz_inline.specs.Calls.{name_or, callee_names}
 use Rattle.jz_inline.proofs.Naming.{NoArray, own_name, new_right}

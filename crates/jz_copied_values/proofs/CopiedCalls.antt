@@ -21,7 +21,7 @@ use Rattle.jz_meaning.specs.Values.{Ref, ref_of}
 use Rattle.jz_runs.specs.Trees.{op}
 use Rattle.jz_pass.specs.Operations.{in_turn}
 use Rattle.jz_change.specs.declared.change.Numbers.{Numbers}
-use Rattle.jz_bodies.specs.Calls.{is_array}
+use Rattle.jz_inline.specs.BodiesCalls.{is_array}
 use Rattle.jz_inline.specs.Names.{Names, var_in, expr_in, lval_in, op_in}
 use Rattle.jz_inline.specs.Calls.{set_one, argument_ops, result_op, result_ops}
 use Rattle.jz_inline.proofs.Reading.{ref_so}

@@ -5,3 +5,4 @@ pub mod Legal
 pub mod Source
 pub mod Layers
 pub mod Copied
+pub use Rattle.jz_ready.proofs.Whole

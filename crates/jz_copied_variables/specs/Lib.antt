@@ -1,2 +1,3 @@
 pub mod Variables
 pub mod VariableLaws
+pub use Rattle.jz_ready.specs.CopiedKinds

@@ -13,12 +13,12 @@ use Rattle.jz_unrolling_values.specs.InlineNames.{inline_names}
 use Rattle.jz_unrolling_values.specs.Numbers.{no_numbers}
 use Rattle.jz_scalars.specs.Functions.{function_with_scalars, scalar_change}
 use Rattle.jz_function_runs.specs.FunctionRuns.{plain_body}
-use Rattle.jz_ready.specs.CopiedKinds.{copied_kinds}
-use Rattle.jz_expansion.specs.Expansions.{IsExpansion}
+use Rattle.jz_expanded_types.specs.CopiedKinds.{copied_kinds}
+use Rattle.jz_expanded_types.specs.Expansions.{IsExpansion}
 use Rattle.jz_expanded_types.proofs.Expanded.{copied, rounds, rewritten}
-use Rattle.jz_row_classes.specs.RowClasses.{IsClassedBody}
-use Rattle.jz_kept_rows.specs.KeptRows.{IsRowedBody}
-use Rattle.jz_kept_rows.proofs.Trees.{unrolled_are_classed, scalar_bodies_are_classed}
+use Rattle.jz_copied_classes.specs.RowClasses.{IsClassedBody}
+use Rattle.jz_copied_classes.specs.KeptRows.{IsRowedBody}
+use Rattle.jz_copied_classes.proofs.Trees.{unrolled_are_classed, scalar_bodies_are_classed}
 use Rattle.jz_copied_classes.proofs.Copies.{copies_have_classes}
 use Rattle.jz_expanded_classes.specs.ClassedLaws.{ExpansionsAreClassed}
 

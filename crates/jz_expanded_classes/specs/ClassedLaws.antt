@@ -6,8 +6,8 @@ use Rattle.jz_types.specs.TypedPrograms.{IsTypedProgram}
 use Rattle.jz_texts.specs.Texts.{IsText}
 use Rattle.jz_change.specs.Changes.{Change}
 use Rattle.jz_function_runs.specs.FunctionRuns.{plain_body}
-use Rattle.jz_expansion.specs.Expansions.{IsExpansion}
-use Rattle.jz_row_classes.specs.RowClasses.{IsClassedBody}
+use Rattle.jz_expanded_types.specs.Expansions.{IsExpansion}
+use Rattle.jz_copied_classes.specs.RowClasses.{IsClassedBody}
 
 abbrev pub ExpansionsAreClassed : Type 0
 ExpansionsAreClassed =

@@ -36,15 +36,15 @@ use Rattle.jz_bodies.proofs.Refs.{bytes_same, ref_name, ref_copy, ref_cell}
 use Rattle.jz_bodies.proofs.Whole as whole
 use Rattle.jz_bodies.proofs.Whole.{all_known}
 use Rattle.jz_change.specs.Changes.{Change}
-use Rattle.jz_ready.specs.CopiedKinds.{callees_of, copied_kinds}
-use Rattle.jz_expansion.specs.Expansions.{IsExpansion}
+use Rattle.jz_plain_expansions.specs.CopiedKinds.{callees_of, copied_kinds}
+use Rattle.jz_plain_expansions.specs.Expansions.{IsExpansion}
 use Rattle.jz_standing.specs.Typing.{NoNumbers, IsScalar}
 use Rattle.jz_fact_entry.specs.Entry.{IsOther, DifferByName}
-use Rattle.jz_fact_runs.specs.Fine.{IsResult, AreResults}
+use Rattle.jz_never_stuck.specs.Fine.{IsResult, AreResults}
 use Rattle.jz_never_stuck.specs.Safety.{SharesHead}
-use Rattle.jz_plain_operands.specs.Plain.{IsPlain, a_word, a_slot, a_flag, an_array}
-use Rattle.jz_copied_variables.specs.Variables.{is_framed, framed_in, frame_of, copy_known, known_at, IsSeen}
-use Rattle.jz_copied_variables.proofs.Legal.{legal}
+use Rattle.jz_plain_expansions.specs.Plain.{IsPlain, a_word, a_slot, a_flag, an_array}
+use Rattle.jz_plain_expansions.specs.Variables.{is_framed, framed_in, frame_of, copy_known, known_at, IsSeen}
+use Rattle.jz_plain_expansions.proofs.Legal.{legal}
 use Rattle.jz_plain_expansions.specs.PlainExpansions.{without_int, expanded_kinds}
 use Rattle.jz_plain_expansions.proofs.Variables.{plain_seen}
 use Rattle.jz_expanded_heads.specs.HeadLaws.{IsFineHead, HeadsAreFine}

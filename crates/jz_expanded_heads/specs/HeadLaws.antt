@@ -11,12 +11,12 @@ use Rattle.jz_meaning.specs.States.{Key}
 use Rattle.jz_meaning.specs.Values.{ref_of}
 use Rattle.jz_run_laws.specs.Kinds.{Kinds}
 use Rattle.jz_change.specs.Changes.{Change}
-use Rattle.jz_expansion.specs.Expansions.{IsExpansion}
+use Rattle.jz_plain_expansions.specs.Expansions.{IsExpansion}
 use Rattle.jz_standing.specs.Typing.{NoNumbers, IsScalar}
 use Rattle.jz_fact_entry.specs.Entry.{DifferByName}
-use Rattle.jz_fact_runs.specs.Fine.{AreResults}
+use Rattle.jz_never_stuck.specs.Fine.{AreResults}
 use Rattle.jz_never_stuck.specs.Safety.{SharesHead}
-use Rattle.jz_copied_variables.specs.Variables.{frame_of}
+use Rattle.jz_plain_expansions.specs.Variables.{frame_of}
 use Rattle.jz_plain_expansions.specs.PlainExpansions.{expanded_kinds}
 
 pub record IsFineHead (kinds : Kinds) (in_frame : Key → Bool) (g : Fun) : Type 0 where

@@ -28,14 +28,14 @@ use Rattle.jz_unrolling_laws.specs.CalledBodies.{inlines_of, IsNamed}
 use Rattle.jz_copied_values.proofs.CopiedNumbers.{IsCopy}
 use Rattle.jz_walked_laws.proofs.Ones.{only_ones}
 use Rattle.jz_walked_laws.proofs.Whole.{named_law, called_law}
-use Rattle.jz_unrollable.proofs.FrameNames.{frame_names}
+use Rattle.jz_expansion.proofs.FrameNames.{frame_names}
 use Rattle.jz_arrays.specs.Arrays.{arrays}
 use Rattle.jz_scalars.specs.Functions.{function_with_scalars, scalar_change}
 use Rattle.jz_scalars.specs.Ready.{IsReady}
 use Rattle.jz_scalars.proofs.Keeping.{keeps_runs}
 use Rattle.jz_function_runs.specs.FunctionRuns.{plain_body}
-use Rattle.jz_ready.specs.CopiedKinds.{copied_kinds}
-use Rattle.jz_ready.proofs.Whole.{ready_law}
+use Rattle.jz_expansion.specs.CopiedKinds.{copied_kinds}
+use Rattle.jz_expansion.proofs.Whole.{ready_law}
 use Rattle.jz_expansion.specs.Expansions.{IsExpansion}
 use Rattle.jz_expanded_limits.specs.WithinBodies.{IsWithinBody}
 use Rattle.jz_expanded_limits.specs.ExpandedLimits.{ExpansionsAreWithin}

@@ -1,2 +1,3 @@
 pub mod WithinBodies
 pub mod ExpandedLimits
+pub use Rattle.jz_expansion.specs.Expansions

@@ -18,7 +18,7 @@ use Rattle.jz_ready.specs.CopiedKinds.{copied_kinds}
 use Rattle.jz_ready.proofs.Whole.{ready_law}
 use Rattle.jz_function_runs.specs.FunctionRuns.{plain_body}
 use Rattle.jz_scalars.specs.Functions.{function_with_scalars}
-use Rattle.jz_expansion.specs.Expansions.{IsExpansion}
+use Rattle.jz_one_expansion.specs.Expansions.{IsExpansion}
 use Rattle.jz_one_unrolling.proofs.One.{one_unrolling}
 use Rattle.jz_one_expansion.proofs.ScalarTrees.{tree_made, block_is}
 use Rattle.jz_one_expansion.proofs.Expansions.{expansions_same}

@@ -4,7 +4,7 @@ use Rattle.jz_tree.specs.declared.program.Fun.{Fun}
 use Rattle.jz_tree.specs.declared.program.Program.{Program}
 use Rattle.jz_typed_runs.specs.TypedTexts.{IsTypedText}
 use Rattle.jz_change.specs.Changes.{Change}
-use Rattle.jz_expansion.specs.Expansions.{IsExpansion}
+use Rattle.jz_one_expansion.specs.Expansions.{IsExpansion}
 use Rattle.jz_body_numbers.specs.Numbers.{of_body}
 
 abbrev pub OneNumbers : Type 0

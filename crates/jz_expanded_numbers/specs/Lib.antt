@@ -1,1 +1,2 @@
 pub mod ExpandedNumbers
+pub use Rattle.jz_one_expansion.specs.OneExpansion

@@ -26,8 +26,8 @@ use Rattle.jz_pass.specs.Unrolling.{Unrolls}
 use Rattle.jz_pass.proofs.Twice.{carries_both}
 use Rattle.jz_inline.specs.Functions.{Given, alike, runs_of, body_runs, inlining_of}
 use Rattle.jz_inline.proofs.Made.{inlined_is}
-use Rattle.jz_inlining.specs.Inlined.{inlined_function}
-use Rattle.jz_inlining.proofs.Kept.{carries_inlined}
+use Rattle.jz_expansion.specs.Inlined.{inlined_function}
+use Rattle.jz_expansion.proofs.Kept.{carries_inlined}
 use Rattle.jz_unroll.specs.Unrolling.{unrolling}
 use Rattle.jz_unrolling_values.specs.InlineNames.{inline_names}
 use Rattle.jz_unrolling_values.specs.Numbers.{no_numbers}
@@ -35,14 +35,14 @@ use Rattle.jz_type_names.specs.Scopes.{variables_of}
 use Rattle.jz_unrolling.specs.Unrolled.{GivesPlain}
 use Rattle.jz_unrolling.proofs.FunctionLemmas as rounds
 use Rattle.jz_unrolling_laws.specs.CalledBodies.{inlines_of, IsNamed}
-use Rattle.jz_walked_laws.proofs.Whole.{named_law, called_law, results_law}
-use Rattle.jz_unrollable.proofs.Unrollable.{unrollable}
+use Rattle.jz_expansion.proofs.WalkedLawsWhole.{named_law, called_law, results_law}
+use Rattle.jz_expansion.proofs.Unrollable.{unrollable}
 use Rattle.jz_scalars.specs.Functions.{BeginsWith, function_with_scalars, scalar_change}
 use Rattle.jz_scalars.specs.Ready.{IsReady}
 use Rattle.jz_scalars.proofs.Keeping as thins
 use Rattle.jz_function_runs.specs.FunctionRuns.{plain_body, alike_where, alike_always}
-use Rattle.jz_ready.specs.CopiedKinds.{copied_kinds}
-use Rattle.jz_ready.proofs.Whole.{ready_law, entry_law}
+use Rattle.jz_expansion.specs.CopiedKinds.{copied_kinds}
+use Rattle.jz_expansion.proofs.Whole.{ready_law, entry_law}
 use Rattle.jz_expansion.specs.Expansions.{IsExpansion}
 use Rattle.jz_joined.specs.Making.{IsAsked, IsExpandedTo}
 use Rattle.jz_expanded_runs.specs.RunLaws.{ExpansionsKeepRuns}

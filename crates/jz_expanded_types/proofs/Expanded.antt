@@ -22,8 +22,8 @@ use Rattle.jz_scalars.specs.Functions.{function_with_scalars, scalar_change}
 use Rattle.jz_scalars.specs.Ready.{IsReady}
 use Rattle.jz_scalars.proofs.Keeping.{keeps_runs}
 use Rattle.jz_function_runs.specs.FunctionRuns.{plain_body}
-use Rattle.jz_ready.specs.CopiedKinds.{copied_kinds}
-use Rattle.jz_ready.proofs.Whole.{ready_law}
+use Rattle.jz_expansion.specs.CopiedKinds.{copied_kinds}
+use Rattle.jz_expansion.proofs.Whole.{ready_law}
 use Rattle.jz_expansion.specs.Expansions.{IsExpansion}
 use Rattle.jz_kept_types.specs.Operations.{IsTypedBody}
 use Rattle.jz_kept_types.proofs.Trees.{unrolled_stay, scalar_bodies_stay}

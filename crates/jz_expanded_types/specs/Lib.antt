@@ -1,1 +1,3 @@
 pub mod ExpandedLaws
+pub use Rattle.jz_expansion.specs.CopiedKinds
+pub use Rattle.jz_expansion.specs.Expansions

@@ -15,7 +15,7 @@ use Rattle.jz_meaning.specs.States.{Value, State, empty_store}
 use Rattle.jz_meaning.specs.Statements.{Block}
 use Rattle.jz_meaning.specs.Runs.{Returned, FunOutcome, IsInput, with_arguments}
 use Rattle.jz_run_laws.specs.Kinds.{Kinds, IsOfKinds}
-use Rattle.jz_typed_runs.specs.TypedTexts.{IsTypedText}
+use Rattle.jz_walked_laws.specs.TypedTexts.{IsTypedText}
 use Rattle.jz_change.specs.Changes.{Change}
 use Rattle.jz_change.specs.Composing.{Composes, compose_of}
 use Rattle.jz_change.specs.Views.{change_of}
@@ -23,8 +23,8 @@ use Rattle.jz_first_limit.specs.FirstLimits.{IsWithinLimits, expanded_count}
 use Rattle.jz_pass.specs.Laws.{Runs, Follows, has_ended, was_cut, was_stuck, Carries, both}
 use Rattle.jz_pass.specs.Unrolling.{Unrolls}
 use Rattle.jz_pass.proofs.Twice.{carries_both}
-use Rattle.jz_inline.specs.Functions.{Given, alike, runs_of, body_runs}
-use Rattle.jz_inline.proofs.Made.{inlined_is}
+use Rattle.jz_inlining.specs.Functions.{Given, alike, runs_of, body_runs}
+use Rattle.jz_inlining.proofs.Made.{inlined_is}
 use Rattle.jz_inlining.specs.declared.inlining.Inlined.{Inlined}
 use Rattle.jz_inlining.specs.Inlined.{IsExport, IsInlined, inlined_function}
 use Rattle.jz_inlining.specs.Inlined as inlines
@@ -36,9 +36,9 @@ use Rattle.jz_integers.specs.Integers.{KnownNumbers}
 use Rattle.jz_scalars.specs.Functions as thins
 use Rattle.jz_scalars.specs.Functions.{BeginsWith, function_with_scalars, scalar_change}
 use Rattle.jz_scalars.specs.Ready.{IsReady}
-use Rattle.jz_function_runs.specs.FunctionRuns.{plain_body, alike_where, alike_always}
-use Rattle.jz_ready.specs.CopiedKinds.{copied_kinds}
-use Rattle.jz_ready.proofs.Whole.{ready_law, entry_law}
+use Rattle.jz_unrolling.specs.FunctionRuns.{plain_body, alike_where, alike_always}
+use Rattle.jz_unrollable.specs.CopiedKinds.{copied_kinds}
+use Rattle.jz_unrollable.proofs.Whole.{ready_law, entry_law}
 use Rattle.jz_expansion.specs.Expansions.{IsExpansion}
 use Rattle.jz_expansion.specs.Expanding.{IsInputOf, IsCountedAt}
 

@@ -9,7 +9,7 @@ use Rattle.jz_type_rows.specs.Exports.{is_exported}
 use Rattle.jz_types.specs.TypedPrograms.{IsTypedProgram}
 use Rattle.jz_texts.specs.Texts.{IsText}
 use Rattle.jz_meaning.specs.Runs.{body_of}
-use Rattle.jz_typed_runs.specs.TypedTexts.{IsTypedText}
+use Rattle.jz_walked_laws.specs.TypedTexts.{IsTypedText}
 use Rattle.jz_copies.specs.Counts.{Passes}
 use Rattle.jz_copies.specs.declared.extent.CopyLimit.{CopyLimit}
 use Rattle.jz_copies.specs.declared.extent.CopyLimit.TheVariants as copies
@@ -17,7 +17,7 @@ use Rattle.jz_first_limit.specs.FirstLimits.{IsWithinLimits}
 use Rattle.jz_inlining.specs.declared.inlining.Inlined.{Inlined}
 use Rattle.jz_inlining.specs.Inlined.{IsExport, IsInlined, inlined_function}
 use Rattle.jz_unrolling.specs.Unrolled.{IsUnrollable}
-use Rattle.jz_unrolling_laws.specs.CalledBodies.{inlines_of, IsNamed}
+use Rattle.jz_walked_laws.specs.CalledBodies.{inlines_of, IsNamed}
 use Rattle.jz_walked_laws.proofs.Whole.{named_law, called_law, results_law}
 use Rattle.jz_unrollable.proofs.Unrollable.{unrollable}
 use Rattle.jz_expansion.proofs.Followed.{same_at, contains_at}

@@ -12,8 +12,8 @@ use Rattle.jz_change.specs.Views.{change_of}
 use Rattle.jz_pass.specs.Laws.{Carries}
 use Rattle.jz_limits.specs.declared.limit.Limit.{Limit}
 use Rattle.jz_first_limit.specs.FirstLimits.{IsWithinLimits, PassesFirst, expanded_count}
-use Rattle.jz_inline.specs.Functions.{Given, runs_of, body_runs}
-use Rattle.jz_function_runs.specs.FunctionRuns.{plain_body, alike_where}
+use Rattle.jz_inlining.specs.Functions.{Given, runs_of, body_runs}
+use Rattle.jz_unrolling.specs.FunctionRuns.{plain_body, alike_where}
 use Rattle.jz_expansion.specs.Expansions.{IsExpansion}
 use Rattle.jz_expansion.specs.declared.expanded.Expanded.{Expanded}
 

@@ -8,7 +8,7 @@ use Rattle.jz_types.specs.TypedPrograms.{IsTypedProgram}
 use Rattle.jz_change.specs.Changes.{Change}
 use Rattle.jz_change.specs.Composing.{compose_of}
 use Rattle.jz_first_limit.specs.FirstLimits.{IsWithinLimits, expanded_count}
-use Rattle.jz_inline.specs.Functions.{inlining_of}
+use Rattle.jz_inlining.specs.Functions.{inlining_of}
 use Rattle.jz_inlining.specs.Inlined.{inlined_function}
 use Rattle.jz_unrolling.specs.Unrolled.{IsUnrolled, KeepsHead}
 use Rattle.jz_scalars.specs.Functions.{function_with_scalars, scalar_change}

@@ -41,8 +41,8 @@ use Rattle.jz_unstuck.proofs.Totals.{some_is}
 use Rattle.jz_unstuck.proofs.Sums.{met, both_met, Runs, runs_then}
 use Rattle.jz_unstuck.proofs.Apart.{tested_stands}
 use Rattle.jz_unstuck.proofs.Marks.{marked_stands}
-use Rattle.jz_assigned.proofs.OneValue.{one_stands, one_runs}
-use Rattle.jz_instructed.proofs.Outcomes.{instructed_stands, instructed_runs}
+use Rattle.jz_two_results.proofs.OneValue.{one_stands, one_runs}
+use Rattle.jz_two_results.proofs.Outcomes.{instructed_stands, instructed_runs}
 use Rattle.jz_two_results.proofs.Paired.{paired_stands, paired_runs}
 use Rattle.jz_unstuck.proofs.Going.{tests_run}
 

@@ -13,8 +13,8 @@ use Rattle.jz_meaning.specs.Statements.{Operation, assign, instruction, unset, m
 use Rattle.jz_run_laws.specs.Kinds.{Kinds}
 use Rattle.jz_terms.specs.Terms.{term_of}
 use Rattle.jz_standing.specs.Typing.{IsScalar, IsAnswer, AreMarks}
-use Rattle.jz_assigned.specs.AssignedLaws.{IsOne}
-use Rattle.jz_instructed.specs.Instructed.{IsInstructed}
+use Rattle.jz_two_results.specs.AssignedLaws.{IsOne}
+use Rattle.jz_two_results.specs.Instructed.{IsInstructed}
 use Rattle.jz_two_results.specs.TwoResults.{IsPaired}
 
 module _ (kinds : Kinds) (in_frame : Key → Bool) where

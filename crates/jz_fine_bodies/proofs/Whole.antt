@@ -11,10 +11,10 @@ use Rattle.jz_flow.specs.Soundness.{AllAre}
 use Rattle.jz_limits.specs.Values.{no_numbers}
 use Rattle.jz_limits.specs.Asked.{asked}
 use Rattle.jz_kept_types.specs.Operations.{IsTyped, IsTypedTest, IsTypedBody}
-use Rattle.jz_row_classes.specs.RowClasses.{IsClassed, IsClassedTest, IsClassedBody}
+use Rattle.jz_fine_rows.specs.RowClasses.{IsClassed, IsClassedTest, IsClassedBody}
 use Rattle.jz_fact_runs.specs.Fine.{IsFine, IsFineTest}
-use Rattle.jz_plain_operands.specs.Plain.{IsPlainLeft}
-use Rattle.jz_plain_operands.proofs.Answers.{answer_there}
+use Rattle.jz_fine_rows.specs.Plain.{IsPlainLeft}
+use Rattle.jz_fine_rows.proofs.Answers.{answer_there}
 use Rattle.jz_plain_expansions.specs.PlainExpansions.{IfPlain, ArePlain, IsMarkPlain, IsPlainTest, IsPlainBody, IsWithinBody}
 use Rattle.jz_fine_rows.specs.Prepared as rows
 use Rattle.jz_fine_rows.proofs.Assigned.{assignments_are_fine}

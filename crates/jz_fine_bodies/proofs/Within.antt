@@ -29,7 +29,7 @@ use Rattle.jz_limits.specs.Asked.{unless, is_count, bad_count, counted, told, ro
 use Rattle.jz_terms.specs.Terms.{num, term_of}
 use Rattle.jz_terms.proofs.Bridge.{term_layer}
 use Rattle.jz_instructed.specs.Instructed.{with_count, form_of}
-use Rattle.jz_plain_operands.proofs.Layers.{term_out}
+use Rattle.jz_fine_rows.proofs.Layers.{term_out}
 use Rattle.jz_fine_results.specs.Fitting.{NumberFits, OperandsFit, InstructionFits}
 
 abbrev constant_of : Expr → Option Constant

@@ -6,7 +6,7 @@ use Rattle.jz_meaning.specs.Statements.{Block}
 use Rattle.jz_run_laws.specs.Kinds.{Kinds}
 use Rattle.jz_flow.specs.Soundness.{AllAre}
 use Rattle.jz_kept_types.specs.Operations.{IsTypedBody}
-use Rattle.jz_row_classes.specs.RowClasses.{IsClassedBody}
+use Rattle.jz_fine_rows.specs.RowClasses.{IsClassedBody}
 use Rattle.jz_fact_runs.specs.Fine.{IsFine, IsFineTest}
 use Rattle.jz_plain_expansions.specs.PlainExpansions.{IsPlainBody, IsWithinBody}
 

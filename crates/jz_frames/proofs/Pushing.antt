@@ -7,7 +7,7 @@ use Rattle.jz_tree.specs.declared.expr.Expr.TheViews.{out-Var}
 use Rattle.jz_tree.specs.declared.program.Param.{Param}
 use Rattle.jz_type_names.specs.Order.{is_before}
 use Rattle.jz_meaning.specs.Values.{ref_of}
-use Rattle.jz_bodies.specs.Calls.{is_array}
+use Rattle.jz_inline.specs.BodiesCalls.{is_array}
 use Rattle.jz_inline.specs.Names.{Names, var_in}
 use Rattle.jz_frames.specs.Frames.{own_params}
 use Rattle.jz_frames.specs.InnerFrames.{ahead}

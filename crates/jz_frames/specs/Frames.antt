@@ -17,7 +17,7 @@ use Rattle.jz_tree.specs.declared.program.Program.{Program}
 use Rattle.jz_type_names.specs.Order.{is_before}
 use Rattle.jz_type_names.specs.Parts.{Layer, layer_of, statements_of}
 use Rattle.jz_meaning.specs.Values.{ref_of}
-use Rattle.jz_bodies.specs.Calls.{is_array}
+use Rattle.jz_inline.specs.BodiesCalls.{is_array}
 use Rattle.jz_copies.specs.Called.{called_function}
 use Rattle.jz_inline.specs.Names.{Names, var_in}
 use Rattle.jz_inline.specs.Calls.{callee_names}

@@ -19,7 +19,7 @@ use Rattle.jz_bodies.proofs.Whole.{IsKnown, all_known}
 use Rattle.jz_distinct.proofs.Framed.{typed_differ}
 use Rattle.jz_declared.specs.Declared.{Differ, stack_of}
 use Rattle.jz_declared.proofs.Places.{of_declarations}
-use Rattle.jz_expansion.specs.declared.expanded.Expanded.{Expanded}
+use Rattle.jz_expanded_runs.specs.Expanded.{Expanded}
 use Rattle.jz_listing.specs.declared.compiled.Compiled.{Compiled}
 use Rattle.jz_correct.specs.Frames.{rounded_up, saved_slots, slots_from, frame_end, frame_size}
 use Rattle.jz_correct.specs.Registers.{argument_registers, result_registers}
@@ -33,9 +33,9 @@ use Rattle.jz_compiled.specs.Lines.{AreArgumentLines, AreResultLines, listed_pre
 use Rattle.jz_compiled.specs.Showing.{CasesStayIn, slot_access, saving_accesses}
 use Rattle.jz_compiled.specs.Matching.{CarriesOver}
 use Rattle.jz_compiled.specs.Correct.{IsCompilation}
-use Rattle.jz_signature.specs.Laws.{stacked_as, IsUnstacked}
-use Rattle.jz_signature.proofs.StackLemmas.{stack_is}
-use Rattle.jz_joined.specs.Making.{IsExpandedTo, IsMade}
+use Rattle.jz_compiling.specs.SignatureLaws.{stacked_as, IsUnstacked}
+use Rattle.jz_compiling.proofs.StackLemmas.{stack_is}
+use Rattle.jz_compiling.specs.Making.{IsExpandedTo, IsMade}
 use Rattle.jz_expanded_runs.proofs.Followed.{expansions_keep_runs}
 use Rattle.jz_compiling.specs.Made.{KeepsHead, HasPlainHead}
 use Rattle.jz_compiling.proofs.Expanded.{made, carries_over}

@@ -42,7 +42,7 @@ use Rattle.jz_distinct.proofs.Differing.{differ_part}
 use Rattle.jz_listing.specs.declared.compiled.Arg.{Arg}
 use Rattle.jz_correct.specs.Registers.{result_registers}
 use Rattle.jz_compiled.specs.Lines.{AreResultLines}
-use Rattle.jz_signature.proofs.StackLemmas.{in_second, inline_itself}
+use Rattle.jz_compiling.proofs.StackLemmas.{in_second, inline_itself}
 use Rattle.jz_compiling.specs.Made.{IsUsed, HasPlainHead}
 use Rattle.jz_from_text.proofs.Merging.{later, in_frame}
 

@@ -7,7 +7,7 @@ use Rattle.jz_tree.specs.declared.program.Fun.{Fun}
 use Rattle.jz_type_names.specs.Order.{is_before}
 use Rattle.jz_inline.specs.Names.{Names, var_in}
 use Rattle.jz_frames.specs.Frames.{Group, behind, merged, frame_in, groups, copies_in, calls_in}
-use Rattle.jz_signature.proofs.StackLemmas.{in_second}
+use Rattle.jz_compiling.proofs.StackLemmas.{in_second}
 
 pub later : {A : Type 0} (x : A) (xs : List A) (y : A) → Contains xs y → Contains (x ∷ xs) y
 later x xs y h = (suc h.0, omega (arith, h.1), h.2)

@@ -8,14 +8,14 @@ use Rattle.jz_texts.specs.Texts.{IsText}
 use Rattle.jz_meaning.specs.Runs.{body_of}
 use Rattle.jz_change.specs.Views.{change_of}
 use Rattle.jz_inline.specs.Functions.{own_names}
-use Rattle.jz_expansion.specs.declared.expanded.Expanded.{Expanded}
-use Rattle.jz_expansion.specs.Expansions.{IsExpansion}
+use Rattle.jz_expanded_runs.specs.Expanded.{Expanded}
+use Rattle.jz_expanded_runs.specs.Expansions.{IsExpansion}
 use Rattle.jz_listing.specs.declared.compiled.Compiled.{Compiled}
 use Rattle.jz_compiled.specs.Layout.{layout_of}
 use Rattle.jz_compiled.specs.Showing.{CasesStayIn}
 use Rattle.jz_compiled.specs.Matching.{CarriesOver}
 use Rattle.jz_compiled.specs.Correct.{IsCompilation}
-use Rattle.jz_joined.specs.Making.{IsNeverStuck}
+use Rattle.jz_compiling.specs.Making.{IsNeverStuck}
 use Rattle.jz_compiling.specs.Made.{IsMadeOf}
 
 -- the expansion of the export function f of a typed text is compiled to c

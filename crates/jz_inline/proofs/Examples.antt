@@ -21,7 +21,7 @@ use Rattle.jz_meaning.specs.Values.{Ref, cell_key, ref_of}
 use Rattle.jz_meaning.specs.Shapes.{words}
 use Rattle.jz_meaning.specs.Statements.{Call, array_of}
 use Rattle.jz_meaning.specs.declared.access.Kind.TheVariants as kind
-use Rattle.jz_run_laws.specs.Kinds.{sort_of_kind}
+use Rattle.jz_bodies.specs.Kinds.{sort_of_kind}
 use Rattle.jz_bodies.specs.Scopes.{Scope, a_scalar, a_cell, Has, Sets}
 use Rattle.jz_bodies.specs.Calls.{is_array, IsLent, lent_here, lent_later, its_cell, of_array, IsCall}
 use Rattle.jz_inline.proofs.Naming.{same_key-refl}

@@ -16,3 +16,5 @@ pub mod Renaming
 pub mod Passed
 pub mod Counting
 pub mod Capping
+pub use Rattle.jz_interp.proofs.Pieces
+pub use Rattle.jz_bodies.proofs.Whole

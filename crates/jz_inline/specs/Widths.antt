@@ -12,7 +12,7 @@ use Rattle.jz_tree.specs.declared.stmt.Lval.{Lval}
 use Rattle.jz_tree.specs.declared.stmt.Lval.TheVariants as lval
 use Rattle.jz_meaning.specs.Values.{ref_of}
 use Rattle.jz_meaning.specs.Shapes.{Sort, Shape, shape_step}
-use Rattle.jz_run_laws.specs.Kinds.{sort_of_kind}
+use Rattle.jz_bodies.specs.Kinds.{sort_of_kind}
 
 -- the parts of an expression, each with what it is
 abbrev pub Shapes : Type 0

@@ -2,7 +2,7 @@
 
 ghost use Rattle.std.specs.Prelude.{◌≡◌, ◌+◌, IfOk};
 ghost use Rattle.jz_meaning.specs.Values.{ref_of};
-ghost use Rattle.jz_run_laws.specs.Kinds.{sort_of_kind};
+ghost use Rattle.jz_bodies.specs.Kinds.{sort_of_kind};
 ghost use Rattle.jz_inline.specs.Widths as widths;
 ghost use Rattle.jz_inline.specs.Widths.{capped, declared_shape};
 ghost use Rattle.jz_inline.specs.InnerWidths.{is_whole, counted_of, count_of_operation};

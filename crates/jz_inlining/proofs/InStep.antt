@@ -12,7 +12,7 @@ use Rattle.jz_tree.specs.declared.program.Param.{Param}
 use Rattle.jz_meaning.specs.Values.{ref_of}
 use Rattle.jz_change.specs.declared.change.Numbers.{Numbers}
 use Rattle.jz_change.specs.declared.change.Numbers.TheVariants.{These}
-use Rattle.jz_bodies.specs.Calls.{is_array}
+use Rattle.jz_inline.specs.BodiesCalls.{is_array}
 use Rattle.jz_inline.specs.Names.{Names, var_in, expr_in, lval_in}
 use Rattle.jz_inline.specs.Widths.{width, left_width}
 use Rattle.jz_inline.specs.Calls as calls

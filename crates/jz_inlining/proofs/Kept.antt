@@ -12,9 +12,9 @@ use Rattle.jz_meaning.specs.Runs.{block}
 use Rattle.jz_type_rows.specs.Exports.{is_exported}
 use Rattle.jz_change.specs.Changes.{Change}
 use Rattle.jz_pass.specs.Laws.{Runs, Relating, Follows, has_ended, was_cut, was_stuck, Carries}
-use Rattle.jz_bodies.specs.Typed.{IsTypedFunction}
-use Rattle.jz_bodies.specs.Declared.{scopes_in}
-use Rattle.jz_bodies.proofs.Whole.{bodies_law}
+use Rattle.jz_inline.specs.Typed.{IsTypedFunction}
+use Rattle.jz_inline.specs.Declared.{scopes_in}
+use Rattle.jz_inline.proofs.Whole.{bodies_law}
 use Rattle.jz_inline.specs.Functions.{runs_of, body_runs, alike, inlining_of}
 use Rattle.jz_inline.specs.Statements.{no_callees, inlined_statements}
 use Rattle.jz_inline.proofs.Functions.{carries}

@@ -5,3 +5,6 @@ pub mod Calling
 pub mod InStep
 pub mod Pushed
 pub mod Kept
+pub use Rattle.jz_inline.proofs.Made
+pub use Rattle.jz_inline.proofs.Naming
+pub use Rattle.jz_frames.proofs.Needed

@@ -7,7 +7,7 @@ use Rattle.jz_type_rows.specs.Exports.{is_exported}
 use Rattle.jz_types.specs.TypedPrograms.{IsTypedProgram}
 use Rattle.jz_meaning.specs.declared.value.Stuck.{Stuck}
 use Rattle.jz_meaning.specs.Runs.{Returned, block}
-use Rattle.jz_texts.specs.Texts.{IsText}
+use Rattle.jz_inline.specs.Texts.{IsText}
 use Rattle.jz_change.specs.Views.{change_of}
 use Rattle.jz_pass.specs.Laws.{Runs, Carries}
 use Rattle.jz_copies.specs.declared.extent.CopyLimit.{CopyLimit}

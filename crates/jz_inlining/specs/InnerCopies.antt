@@ -14,7 +14,7 @@ use Rattle.jz_tree.specs.declared.program.Param.{Param}
 use Rattle.jz_meaning.specs.Values.{ref_of}
 use Rattle.jz_change.specs.declared.change.Numbers.{Numbers}
 use Rattle.jz_change.specs.declared.change.Step.{Step}
-use Rattle.jz_bodies.specs.Calls.{is_array}
+use Rattle.jz_inline.specs.BodiesCalls.{is_array}
 use Rattle.jz_inline.specs.Names.{Names, var_in, expr_in, lval_in}
 use Rattle.jz_inline.specs.Calls.{call_place, argument_items, result_items}
 use Rattle.jz_inline.specs.Statements.{Piece, statement, set_statement, CopiedFuns, copied_funs, argument_statements, result_statements, plain_piece, plain_assignment, copied_piece, assign_piece, if_piece, while_piece, until_piece, for_piece, body_piece}

@@ -7,7 +7,7 @@ use Rattle.jz_tree.specs.declared.program.Param.{Param}
 use Rattle.jz_meaning.specs.Values.{ref_of}
 use Rattle.jz_change.specs.declared.change.Numbers.{Numbers}
 use Rattle.jz_change.specs.declared.change.Numbers.TheVariants.{These}
-use Rattle.jz_bodies.specs.Calls.{is_array}
+use Rattle.jz_inline.specs.BodiesCalls.{is_array}
 use Rattle.jz_inline.specs.Widths.{width, left_width}
 use Rattle.jz_inline.specs.Calls.{from}
 use Rattle.jz_inlining.specs.InnerCopies.{is_copied}

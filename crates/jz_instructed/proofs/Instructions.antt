@@ -2,7 +2,7 @@
 use Rattle.jz_tree.specs.Spellings.{spelled}
 use Rattle.jz_meaning.specs.Statements as source
 use Rattle.jz_meaning.specs.Statements.{instruction}
-use Rattle.jz_unstuck.proofs.Going.{goes}
+use Rattle.jz_assigned.proofs.Going.{goes}
 use Rattle.jz_instructed.specs.InstructedLaws.{InstructionsGo, InstructionsStand}
 use Rattle.jz_instructed.proofs.Outcomes.{instructed_stands, instructed_runs}
 

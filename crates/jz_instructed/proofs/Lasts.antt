@@ -31,7 +31,7 @@ use Rattle.jz_standing.specs.Typing.{whole, NoNumbers, IsScalar, IsArray, IsSum}
 use Rattle.jz_standing.specs.Standing.{is_of_cell, AreValid, Stands}
 use Rattle.jz_standing.proofs.SumForms.{summed}
 use Rattle.jz_standing.proofs.Making.{OfSize}
-use Rattle.jz_unstuck.proofs.Sums.{Runs}
+use Rattle.jz_assigned.proofs.Sums.{Runs}
 use Rattle.jz_assigned.proofs.Cells.{access_so, regions_kept, cell_says, cell_apart, IsWritten, cell_leaves, IsMemory, store_leaves}
 use Rattle.jz_assigned.proofs.Writing.{cell_goes, place_goes}
 

@@ -29,8 +29,8 @@ use Rattle.jz_alarms.specs.Conditions.{asks_left, asks_lefts}
 use Rattle.jz_standing.specs.Typing.{whole, NoNumbers, IsScalar}
 use Rattle.jz_standing.specs.Standing.{is_of_cell, AreValid, Stands}
 use Rattle.jz_standing.proofs.Making.{same_size-refl}
-use Rattle.jz_unstuck.proofs.Sums.{both_met, Runs, runs_then, runs_yields}
-use Rattle.jz_unstuck.proofs.Marks.{seat, says_same, put_elsewhere, scalar_elsewhere}
+use Rattle.jz_assigned.proofs.Sums.{both_met, Runs, runs_then, runs_yields}
+use Rattle.jz_assigned.proofs.Marks.{seat, says_same, put_elsewhere, scalar_elsewhere}
 use Rattle.jz_instructed.specs.Instructed.{Shape, a_flag, a_word, a_pinned, TakesShape, TakeShapes}
 use Rattle.jz_instructed.proofs.Instructing.{IsGot, AreGot, ArePinned, IsEnded}
 use Rattle.jz_instructed.proofs.Lasts.{AsBefore, Behind, cell_behind, store_behind, cell_last, store_last}

@@ -4,3 +4,5 @@ pub mod Lefts
 pub mod Operands
 pub mod Outcomes
 pub mod Instructions
+pub use Rattle.jz_assigned.proofs.Assigning
+pub use Rattle.jz_assigned.proofs.OneValue

@@ -29,8 +29,8 @@ use Rattle.jz_standing.proofs.Held.{holds}
 use Rattle.jz_standing.proofs.Making.{OfSize, IsTruth, same_size-refl}
 use Rattle.jz_standing.proofs.Typed.{compared_wanted}
 use Rattle.jz_standing.proofs.Plain.{plain_word}
-use Rattle.jz_unstuck.proofs.Sums.{both_met, Runs, runs_then}
-use Rattle.jz_unstuck.proofs.Firm.{word_runs, answer_runs}
+use Rattle.jz_assigned.proofs.Sums.{both_met, Runs, runs_then}
+use Rattle.jz_assigned.proofs.Firm.{word_runs, answer_runs}
 use Rattle.jz_assigned.proofs.Writing.{word_goes}
 
 -- ---- it went where conditions are met, and whatever they are this is so of what came out

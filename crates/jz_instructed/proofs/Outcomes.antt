@@ -41,8 +41,8 @@ use Rattle.jz_standing.proofs.Counts.{counted as counted_by}
 use Rattle.jz_standing.proofs.SumForms.{sum_word}
 use Rattle.jz_standing.proofs.Making.{OfSize}
 use Rattle.jz_standing.proofs.Typed.{typed, any_yields}
-use Rattle.jz_unstuck.proofs.Sums.{met, both_met, Runs, runs_then}
-use Rattle.jz_unstuck.proofs.Firm.{word_runs}
+use Rattle.jz_assigned.proofs.Sums.{met, both_met, Runs, runs_then}
+use Rattle.jz_assigned.proofs.Firm.{word_runs}
 use Rattle.jz_assigned.proofs.Assigning.{if_went, three}
 use Rattle.jz_instructed.specs.Instructed.{shapes_of, flags_and_two, Form, one_word, two_words, three_words, with_carry, with_count, an_address, a_condition, form_of, CountFits, AreOperands, IsInstructed}
 use Rattle.jz_instructed.proofs.Instructing.{AreGot, WithNumber, WithMask, WithCount, TwoWords, OneWord, WithCarry, Row, by_one, by_two, by_carry, by_count, by_division, by_address, by_condition, row_of, ended}

@@ -1,1 +1,2 @@
 pub mod Making
+pub use Rattle.jz_called.specs.Called

@@ -30,9 +30,9 @@ use Rattle.jz_listing.specs.declared.compiled.Arg.{Arg}
 use Rattle.jz_listing.specs.declared.compiled.Compiled.{Compiled}
 use Rattle.jz_correct.specs.Registers.{argument_registers, result_registers}
 use Rattle.jz_stack.specs.Laying.{frame_of}
-use Rattle.jz_code.specs.declared.code.MachineCode.{MachineCode}
+use Rattle.jz_called.specs.MachineCode.{MachineCode}
 use Rattle.jz_codable.specs.Ready.{IsReady}
-use Rattle.jz_code.specs.Made.{IsCodeOf}
+use Rattle.jz_called.specs.Made.{IsCodeOf}
 use Rattle.jz_called.specs.Called.{HasCode}
 use Rattle.jz_compiled.specs.Layout.{stack_variables_of, layout_of}
 use Rattle.jz_compiled.specs.Lines.{AreArgumentLines, AreResultLines, listed_preconditions}

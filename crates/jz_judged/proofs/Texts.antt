@@ -9,7 +9,7 @@ use Rattle.jz_type_rows.specs.Exports.{is_exported}
 use Rattle.jz_runs.specs.Rules.{End, Cut, Stuck}
 use Rattle.jz_meaning.specs.declared.value.Stuck.{Stuck as Reason}
 use Rattle.jz_meaning.specs.Runs.{FunOutcome, IsRun}
-use Rattle.jz_safe_expansions.specs.SafeExpansions.{IsExpandedExport}
+use Rattle.jz_constant_leaks.specs.SafeExpansions.{IsExpandedExport}
 use Rattle.jz_checked.specs.CheckedLaws.{IsNeverStuck}
 use Rattle.jz_checked.proofs.Whole.{checked_never}
 use Rattle.jasminc_source.proofs.Causing.{types_one, text_typed}

@@ -27,7 +27,7 @@ use Rattle.jz_unroll.specs.Values.{InlineNames, is_inline_var, with_values, left
 use Rattle.jz_unroll.proofs.InlineParts.{inline_var}
 use Rattle.jz_unroll.proofs.Parts.{not_true}
 use Rattle.jz_arrays.specs.Cells.{with_scalars, left_with_scalars}
-use Rattle.jz_instructed.specs.Instructed.{Shape, a_flag, a_word, a_pinned, shapes_of, Form, one_word, two_words, three_words, with_carry, with_count, an_address, a_condition, form_of}
+use Rattle.jz_row_classes.specs.Instructed.{Shape, a_flag, a_word, a_pinned, shapes_of, Form, one_word, two_words, three_words, with_carry, with_count, an_address, a_condition, form_of}
 use Rattle.jz_kept_types.proofs.Valuing.{values_turn}
 use Rattle.jz_kept_types.proofs.Scaling.{scalars_turn}
 use Rattle.jz_kept_types.proofs.Instructed.{size_kept}

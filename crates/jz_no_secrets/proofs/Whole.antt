@@ -8,16 +8,16 @@ use Rattle.jz_tree.specs.declared.program.Program.{Program}
 use Rattle.jz_meaning.specs.Statements.{Block}
 use Rattle.jz_change.specs.Views.{change_of}
 use Rattle.jz_function_runs.specs.FunctionRuns.{plain_body}
-use Rattle.jz_expansion.specs.declared.expanded.Expanded.{Expanded}
+use Rattle.jz_from_text.specs.Expanded.{Expanded}
 use Rattle.jz_one_unrolling.proofs.One.{one_unrolling}
-use Rattle.jz_one_expansion.proofs.Expansions.{expansions_same}
+use Rattle.jz_constant_time.proofs.Expansions.{expansions_same}
 use Rattle.jz_listing.specs.declared.compiled.Compiled.{Compiled}
 use Rattle.jz_labels.specs.ConstantTime as labels
-use Rattle.jz_ct.specs.Told.{IsConstantTime}
+use Rattle.jz_verdict.specs.Told.{IsConstantTime}
 use Rattle.jz_from_text.specs.Laws.{IsCompiledFrom}
 use Rattle.jz_from_text.proofs.Compiled.{is_made}
 use Rattle.jz_verdict.specs.Said.{IsSaid, IsSaidOf}
-use Rattle.jz_safe_expansions.specs.SafeExpansions.{IsExpandedExport}
+use Rattle.jz_constant_time.specs.SafeExpansions.{IsExpandedExport}
 use Rattle.jz_constant_time.specs.Shown.{ShowsNothingSecret}
 use Rattle.jz_constant_time.proofs.Whole.{made_shows_nothing_secret}
 use Rattle.jz_no_secrets.specs.NoSecrets.{CompiledShowsNothingSecret, SaidShowsNothingSecret}

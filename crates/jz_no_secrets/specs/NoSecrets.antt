@@ -4,9 +4,9 @@ use Rattle.std.specs.Prelude.{◌≡◌}
 use Rattle.jz_io.specs.declared.verdict.Ct.TheVariants as ct
 use Rattle.jz_tree.specs.declared.program.Fun.{Fun}
 use Rattle.jz_tree.specs.declared.program.Program.{Program}
-use Rattle.jz_expansion.specs.declared.expanded.Expanded.{Expanded}
+use Rattle.jz_from_text.specs.Expanded.{Expanded}
 use Rattle.jz_listing.specs.declared.compiled.Compiled.{Compiled}
-use Rattle.jz_ct.specs.Told.{IsConstantTime}
+use Rattle.jz_verdict.specs.Told.{IsConstantTime}
 use Rattle.jz_verdict.specs.Said.{IsSaid}
 use Rattle.jz_from_text.specs.Laws.{IsCompiledFrom}
 use Rattle.jz_constant_time.specs.Shown.{ShowsNothingSecret}

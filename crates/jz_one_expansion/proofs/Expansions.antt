@@ -5,12 +5,12 @@ use Rattle.jz_tree.specs.declared.program.Program.{Program}
 use Rattle.jz_runs.specs.Trees.{done}
 use Rattle.jz_change.specs.Changes.{Change}
 use Rattle.jz_type_names.specs.Scopes.{variables_of}
-use Rattle.jz_inlining.specs.Inlined.{inlined_function}
+use Rattle.jz_expansion.specs.Inlined.{inlined_function}
 use Rattle.jz_function_runs.specs.FunctionRuns.{plain_body}
 use Rattle.jz_unrolling.specs.Unrolled.{IsUnrolled, KeepsHead}
 use Rattle.jz_unrolling_values.specs.InlineNames.{inline_names}
 use Rattle.jz_unrolling_values.specs.Numbers.{no_numbers}
-use Rattle.jz_scalars.specs.Functions.{function_with_scalars}
+use Rattle.jz_expansion.specs.Functions.{function_with_scalars}
 use Rattle.jz_expansion.specs.Expansions.{IsExpansion}
 use Rattle.jz_one_unrolling.specs.OneUnrolling.{OneUnrolling}
 use Rattle.jz_one_expansion.specs.OneExpansion.{IsSame, IsOne}

@@ -18,9 +18,9 @@ use Rattle.jz_meaning.specs.Statements.{Operation, assign, instruction, Conditio
 use Rattle.jz_meaning.specs.Runs.{in_order, assign_tree, kind_tree, statement_tree, block}
 use Rattle.jz_inline.specs.Statements.{no_callees}
 use Rattle.jz_arrays.specs.Cells.{with_scalars, left_with_scalars}
-use Rattle.jz_scalars.specs.declared.made.MadeKind.{MadeKind}
-use Rattle.jz_scalars.specs.declared.made.MadeOne.{MadeOne}
-use Rattle.jz_scalars.specs.Scalars.{right_with_scalars, all_made, made_layer, one_made, kind_made, statement_made, block_made}
+use Rattle.jz_expansion.specs.MadeKind.{MadeKind}
+use Rattle.jz_expansion.specs.MadeOne.{MadeOne}
+use Rattle.jz_expansion.specs.Scalars.{right_with_scalars, all_made, made_layer, one_made, kind_made, statement_made, block_made}
 
 -- ---- trees
 

@@ -1,1 +1,2 @@
 pub mod OneExpansion
+pub use Rattle.jz_expansion.specs.Expansions

@@ -21,7 +21,7 @@ use Rattle.jz_pass.specs.Unrolling.{u_done, u_op, u_quiet, u_if, u_arm, u_while,
 use Rattle.jz_pass.specs.Rewriting.{knowing_of, Rewrites}
 use Rattle.jz_inline.specs.Functions.{inlined_body}
 use Rattle.jz_inline.proofs.Made.{inlined_is}
-use Rattle.jz_inlining.specs.Inlined.{inlined_function}
+use Rattle.jz_expansion.specs.Inlined.{inlined_function}
 use Rattle.jz_unroll.specs.Unrolling.{unrolling}
 use Rattle.jz_unrolling_values.specs.InlineNames.{inline_names}
 use Rattle.jz_unrolling_values.specs.Numbers.{no_numbers}
@@ -31,8 +31,8 @@ use Rattle.jz_scalars.specs.Functions.{function_with_scalars, scalar_change}
 use Rattle.jz_scalars.specs.Ready.{IsReady}
 use Rattle.jz_scalars.proofs.Keeping.{keeps_runs}
 use Rattle.jz_function_runs.specs.FunctionRuns.{plain_body}
-use Rattle.jz_ready.specs.CopiedKinds.{copied_kinds}
-use Rattle.jz_ready.proofs.Whole.{ready_law}
+use Rattle.jz_copied_variables.specs.CopiedKinds.{copied_kinds}
+use Rattle.jz_copied_variables.proofs.Whole.{ready_law}
 use Rattle.jz_expansion.specs.Expansions.{IsExpansion}
 use Rattle.jz_plain_operands.specs.Plain.{IsPlainExpr, IsPlainLeft}
 use Rattle.jz_copied_variables.specs.Variables.{frame_of, known_at, IsSeen, IsMarked, OverBody}

@@ -15,7 +15,7 @@ use Rattle.jz_change.specs.Changes.{Change}
 use Rattle.jz_limits.specs.Values.{no_numbers}
 use Rattle.jz_limits.specs.Asked.{asked, asked_condition}
 use Rattle.jz_function_runs.specs.FunctionRuns.{plain_body}
-use Rattle.jz_ready.specs.CopiedKinds.{copied_kinds}
+use Rattle.jz_copied_variables.specs.CopiedKinds.{copied_kinds}
 use Rattle.jz_expansion.specs.Expansions.{IsExpansion}
 use Rattle.jz_copied_variables.specs.Variables.{frame_of}
 use Rattle.jz_standing.specs.Typing.{AreMarks}

@@ -29,10 +29,10 @@ use Rattle.jz_bodies.proofs.Whole as whole
 use Rattle.jz_bodies.proofs.Whole.{all_known}
 use Rattle.jz_pass.specs.Copying.{copies, inlined}
 use Rattle.jz_pass.specs.Operations.{in_turn}
-use Rattle.jz_inline.specs.Names.{Names, var_in, expr_in, lval_in}
-use Rattle.jz_inline.specs.Calls.{name_or, callee_names, set_one, call_place, argument_ops, result_op, result_ops, names_of_callee, inline_calls}
-use Rattle.jz_inline.proofs.Reading.{over_is}
-use Rattle.jz_inline.proofs.Renaming.{in_var}
+use Rattle.jz_scalars.specs.Names.{Names, var_in, expr_in, lval_in}
+use Rattle.jz_scalars.specs.Calls.{name_or, callee_names, set_one, call_place, argument_ops, result_op, result_ops, names_of_callee, inline_calls}
+use Rattle.jz_scalars.proofs.Reading.{over_is}
+use Rattle.jz_scalars.proofs.Renaming.{in_var}
 use Rattle.jz_arrays.specs.Arrays.{IsRead}
 use Rattle.jz_ready.specs.CopiedKinds.{kind_in}
 use Rattle.jz_ready.proofs.FixedParts.{IsFixedBody, shape_var, fixed_cell, fixed_load, access_shape_is}

@@ -35,10 +35,10 @@ use Rattle.jz_bodies.specs.Bodies.{IsOperation, IsTest}
 use Rattle.jz_bodies.proofs.Refs.{one_is, ref_cell}
 use Rattle.jz_bodies.proofs.Owning.{one_of, set_among}
 use Rattle.jz_bodies.proofs.Whole as whole
-use Rattle.jz_inline.specs.Names.{Names, var_in, expr_in, access_in, lval_in, op_in, test_in}
-use Rattle.jz_inline.proofs.Copies.{ref_in}
-use Rattle.jz_inline.proofs.Reading.{Layer, ref_so, layer_in, in_is, access_layer_in, access_in_is, over_layer, over_is, access_over_is}
-use Rattle.jz_inline.proofs.Renaming.{in_var, in_cell, in_load}
+use Rattle.jz_scalars.specs.Names.{Names, var_in, expr_in, access_in, lval_in, op_in, test_in}
+use Rattle.jz_scalars.proofs.Copies.{ref_in}
+use Rattle.jz_scalars.proofs.Reading.{Layer, ref_so, layer_in, in_is, access_layer_in, access_in_is, over_layer, over_is, access_over_is}
+use Rattle.jz_scalars.proofs.Renaming.{in_var, in_cell, in_load}
 use Rattle.jz_arrays.specs.Arrays.{IsRead, IsNoCell, flags_before}
 use Rattle.jz_arrays.proofs.Reading.{shape_access, sort_of_var, shape_layer, shape_is}
 use Rattle.jz_scalars.specs.Ready.{same_sort, is_sorted}

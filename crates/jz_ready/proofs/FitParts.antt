@@ -21,7 +21,7 @@ use Rattle.jz_run_laws.specs.Kinds.{Kinds, sorts_of}
 use Rattle.jz_run_laws.specs.DeclaredKinds.{LeftDeclared}
 use Rattle.jz_row_laws.proofs.Copied.{carry_join}
 use Rattle.jz_bodies.specs.Scopes.{is_over}
-use Rattle.jz_inline.proofs.Reading.{Layer, over_is}
+use Rattle.jz_scalars.proofs.Reading.{Layer, over_is}
 use Rattle.jz_arrays.specs.Arrays.{IsRead, FixedLeft, IsLeft, whole_old, IsNoCell, flags_before}
 use Rattle.jz_scalars.specs.Ready.{is_sorted, AreSorted, IsReadyAssign, IsReadyInstruction, IsReadyOperation}
 use Rattle.jz_ready.proofs.FixedParts.{NoJoin, shape_bin, fixed_cell, fixed_load}

@@ -10,3 +10,4 @@ pub mod Truths
 pub mod ValuedParts
 pub mod Unrolled
 pub mod Whole
+pub use Rattle.jz_bodies.proofs.Refs

@@ -18,7 +18,7 @@ use Rattle.jz_integers.specs.declared.constant.Constant.{Constant}
 use Rattle.jz_integers.specs.declared.constant.Constant.TheVariants as constant
 use Rattle.jz_meaning.specs.Shapes.{Sort, flags, both, Sorts, Shape, shape_of}
 use Rattle.jz_meaning.specs.Values.{gives_word}
-use Rattle.jz_inline.proofs.Reading.{Layer}
+use Rattle.jz_scalars.proofs.Reading.{Layer}
 use Rattle.jz_arrays.proofs.Reading.{shape_layer, shape_is}
 
 abbrev IsTruth : Option Constant → Bool → Type 0

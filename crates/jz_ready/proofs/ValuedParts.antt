@@ -30,7 +30,7 @@ use Rattle.jz_meaning.specs.Values.{gives_word, ref_of}
 use Rattle.jz_run_laws.specs.Kinds.{Kinds, sorts_of}
 use Rattle.jz_run_laws.specs.DeclaredKinds.{LeftDeclared}
 use Rattle.jz_bodies.specs.Scopes.{is_over, is_access_over}
-use Rattle.jz_inline.proofs.Reading.{Layer, over_layer, over_is, access_over_is}
+use Rattle.jz_scalars.proofs.Reading.{Layer, over_layer, over_is, access_over_is}
 use Rattle.jz_unroll.specs.Values.{constant_expr, with_values, access_with_values, left_with_values, operation_with_values}
 use Rattle.jz_unroll.proofs.Valued.{parts_in, values_is, access_values_is}
 use Rattle.jz_unroll.proofs.Parts.{values_cell, values_load}

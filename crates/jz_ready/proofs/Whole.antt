@@ -20,7 +20,7 @@ use Rattle.jz_bodies.specs.Typed.{IsTypedFunction}
 use Rattle.jz_bodies.proofs.Refs.{ref_copy}
 use Rattle.jz_bodies.proofs.Whole as whole
 use Rattle.jz_bodies.proofs.Whole.{all_known, bodies_law}
-use Rattle.jz_inline.specs.Functions.{own_names, inlined_body}
+use Rattle.jz_scalars.specs.InlineFunctions.{own_names, inlined_body}
 use Rattle.jz_ready.specs.CopiedKinds.{callees_of, copied_kinds}
 use Rattle.jz_ready.specs.ReadyLaws.{ReadyLaw, EntryLaw}
 use Rattle.jz_ready.proofs.FixedBodies.{bodies_fixed}

@@ -12,7 +12,7 @@ use Rattle.jz_run_laws.specs.Kinds.{HoldsBytes, IsOfKinds}
 use Rattle.jz_typed_runs.specs.TypedTexts.{IsTypedText}
 use Rattle.jz_change.specs.Changes.{Change}
 use Rattle.jz_pass.specs.Unrolling.{Unrolls}
-use Rattle.jz_inline.specs.Functions.{inlined_body}
+use Rattle.jz_scalars.specs.InlineFunctions.{inlined_body}
 use Rattle.jz_unroll.specs.Values.{InlineNames}
 use Rattle.jz_unroll.specs.Unrolling.{unrolling}
 use Rattle.jz_scalars.specs.Ready.{IsReady}

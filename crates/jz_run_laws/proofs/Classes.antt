@@ -27,13 +27,13 @@ use Rattle.jz_type_sizes.specs.Typings.{Typing, typing, typing_step, access_typi
 use Rattle.jz_judgement.specs.Places.{Place}
 use Rattle.jz_judgement.specs.HasType.{Layer, HasType, value}
 use Rattle.jz_judgement.proofs.Nothing.{none_not}
-use Rattle.jz_select.specs.declared.class.Mask.TheVariants as mask
-use Rattle.jz_select.specs.declared.class.Class.{Class}
-use Rattle.jz_select.specs.declared.class.Class.TheVariants as class
-use Rattle.jz_select.specs.Rows.{class_size}
-use Rattle.jz_select.specs.Sums.{is_address, is_index}
-use Rattle.jz_select.specs.Look.{look_of, terms_of, bin_inline}
-use Rattle.jz_select.specs.Operands.{class_at, var_class, class_if, cell_at, cell_class, cell_of, inline_or, mask_of, is_byte, register_layer, masked_class, class_layer, class_of, dest_of}
+use Rattle.jz_types.specs.Mask.TheVariants as mask
+use Rattle.jz_types.specs.Class.{Class}
+use Rattle.jz_types.specs.Class.TheVariants as class
+use Rattle.jz_types.specs.SelectRows.{class_size}
+use Rattle.jz_types.specs.Sums.{is_address, is_index}
+use Rattle.jz_types.specs.Look.{look_of, terms_of, bin_inline}
+use Rattle.jz_types.specs.Operands.{class_at, var_class, class_if, cell_at, cell_class, cell_of, inline_or, mask_of, is_byte, register_layer, masked_class, class_layer, class_of, dest_of}
 use Rattle.jz_integers.specs.Integers.{written_number}
 use Rattle.jz_run_laws.specs.Rows.{place_size}
 use Rattle.jz_run_laws.proofs.Placed.{size_at}

@@ -27,3 +27,5 @@ pub mod InstructionSizes
 pub mod OperatorsInPlaces
 pub mod InPlaces
 pub mod Classes
+pub use Rattle.jz_types.proofs.ProgramsKept
+pub use Rattle.jz_types.proofs.RowsHeld

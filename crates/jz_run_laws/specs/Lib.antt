@@ -9,3 +9,13 @@ pub mod Lefts
 pub mod OneSize
 pub mod Values
 pub mod Rows
+pub use Rattle.jz_types.specs.Callee
+pub use Rattle.jz_types.specs.Callees
+pub use Rattle.jz_types.specs.Carried
+pub use Rattle.jz_types.specs.Copies
+pub use Rattle.jz_types.specs.Exports
+pub use Rattle.jz_types.specs.Guarantees
+pub use Rattle.jz_types.specs.Matching
+pub use Rattle.jz_types.specs.Programs
+pub use Rattle.jz_types.specs.declared.fault.TypeRule
+pub use Rattle.jz_types.specs.TypedPrograms

@@ -7,8 +7,8 @@ use Rattle.jz_type_sizes.specs.Sides.{left_form}
 use Rattle.jz_type_sizes.specs.Typings.{typing}
 use Rattle.jz_judgement.specs.Places.{Place, word, stated}
 use Rattle.jz_judgement.specs.HasType.{HasType, value}
-use Rattle.jz_select.specs.Rows.{class_size}
-use Rattle.jz_select.specs.Operands.{class_of, dest_of}
+use Rattle.jz_types.specs.SelectRows.{class_size}
+use Rattle.jz_types.specs.Operands.{class_of, dest_of}
 
 abbrev pub place_size : Place → Option Size
 place_size (word z) = Some z

@@ -3,7 +3,7 @@ use Rattle.std.proofs.Common.{◌≡◌}
 use Rattle.std.proofs.Math.Logic.{∥∥₁_elim}
 use Rattle.jz_change.specs.Views.{change_of}
 use Rattle.jz_function_runs.specs.FunctionRuns.{plain_body}
-use Rattle.jz_expanded_heads.proofs.Heads.{heads_are_fine}
+use Rattle.jz_safe_expansions.proofs.Heads.{heads_are_fine}
 use Rattle.jz_never_stuck.proofs.Whole.{expanded_never}
 use Rattle.jz_safe_expansions.proofs.Whole.{expansions_are_fine, safe_never, source_never}
 use Rattle.jz_safe.specs.SafeRuns.{ExpandedRunsOn, SafeRunsOn, SourceRunsOn}

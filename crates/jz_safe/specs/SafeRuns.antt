@@ -13,7 +13,7 @@ use Rattle.jz_function_runs.specs.FunctionRuns.{plain_body}
 use Rattle.jz_listing.specs.declared.compiled.Compiled.{Compiled}
 use Rattle.jz_correct.specs.Registers.{argument_registers}
 use Rattle.jz_compiled.specs.Lines.{AreArgumentLines}
-use Rattle.jz_joined.specs.Making.{IsNeverStuck}
+use Rattle.jz_safe_expansions.specs.Making.{IsNeverStuck}
 use Rattle.jz_fact_entry.specs.Entry.{AreWords}
 use Rattle.jz_safe.specs.Texts.{IsExpandedFrom}
 use Rattle.jz_safe.specs.declared.certificate.Safe.{Safe}

@@ -4,17 +4,17 @@ use Rattle.jz_tree.specs.declared.program.Fun.{Fun}
 use Rattle.jz_tree.specs.declared.program.Program.{Program}
 use Rattle.jz_change.specs.Changes.{Change}
 use Rattle.jz_function_runs.specs.FunctionRuns.{plain_body}
-use Rattle.jz_expanded_types.proofs.Expanded.{expansions_are_typed}
-use Rattle.jz_copied_variables.specs.Variables.{frame_of}
-use Rattle.jz_plain_expansions.specs.PlainExpansions.{expanded_kinds, IsWithinBody}
-use Rattle.jz_plain_expansions.proofs.Whole.{expansions_are_plain}
+use Rattle.jz_expanded_classes.proofs.Expanded.{expansions_are_typed}
+use Rattle.jz_expanded_heads.specs.Variables.{frame_of}
+use Rattle.jz_expanded_heads.specs.PlainExpansions.{expanded_kinds, IsWithinBody}
+use Rattle.jz_expanded_heads.proofs.Whole.{expansions_are_plain}
 use Rattle.jz_expanded_limits.proofs.Whole.{expansions_are_within}
 use Rattle.jz_expanded_classes.proofs.Whole.{expansions_are_classed}
 use Rattle.jz_expanded_runs.proofs.Followed.{expansions_keep_runs}
 use Rattle.jz_expanded_heads.specs.HeadLaws.{IsFineHead}
 use Rattle.jz_expanded_heads.proofs.Heads.{heads_are_fine}
 use Rattle.jz_fine_bodies.proofs.Whole.{bodies_are_fine}
-use Rattle.jz_never_stuck.specs.Safety.{IsFineFunction, SharesHead}
+use Rattle.jz_expanded_heads.specs.Safety.{IsFineFunction, SharesHead}
 use Rattle.jz_safe_functions.proofs.Whole as functions
 use Rattle.jz_safe_expansions.specs.SafeExpansions.{IsExpandedExport, ExpansionsAreFine, SafeIsNeverStuck, SourceIsNeverStuck}
 use Rattle.jz_safe_expansions.proofs.Within.{within_so}

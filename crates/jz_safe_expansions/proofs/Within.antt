@@ -1,7 +1,7 @@
 -- Both notions of a body within the limits.
 use Rattle.jz_runs.specs.Trees.{done, op, quiet, choose, loop, each, call}
 use Rattle.jz_meaning.specs.Statements.{Block}
-use Rattle.jz_plain_expansions.specs.PlainExpansions.{IsWithinBody}
+use Rattle.jz_expanded_heads.specs.PlainExpansions.{IsWithinBody}
 use Rattle.jz_expanded_limits.specs.WithinBodies as limits
 
 -- a body within the limits

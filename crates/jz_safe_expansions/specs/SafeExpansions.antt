@@ -15,13 +15,13 @@ use Rattle.jz_meaning.specs.Runs.{IsRun}
 use Rattle.jz_preconditions.specs.Meeting.{MeetsPreconditions}
 use Rattle.jz_change.specs.Changes.{Change}
 use Rattle.jz_function_runs.specs.FunctionRuns.{plain_body}
-use Rattle.jz_expansion.specs.Expansions.{IsExpansion}
+use Rattle.jz_expanded_limits.specs.Expansions.{IsExpansion}
 use Rattle.jz_listing.specs.declared.compiled.Compiled.{Compiled}
 use Rattle.jz_correct.specs.Registers.{argument_registers}
 use Rattle.jz_compiled.specs.Lines.{AreArgumentLines}
-use Rattle.jz_joined.specs.Making.{IsNeverStuck}
+use Rattle.jz_safe_functions.specs.Making.{IsNeverStuck}
 use Rattle.jz_fact_entry.specs.Entry.{AreWords}
-use Rattle.jz_never_stuck.specs.Safety.{IsFineFunction, HasNoAlarm}
+use Rattle.jz_expanded_heads.specs.Safety.{IsFineFunction, HasNoAlarm}
 
 -- g: what an export function f of a typed text is expanded to
 pub record IsExpandedExport (p : Program) (f g : Fun) (k : Change) (count : ℕ) : Type 0 where

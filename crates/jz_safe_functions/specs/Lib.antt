@@ -1,1 +1,2 @@
 pub mod SafeLaws
+pub use Rattle.jz_joined.specs.Making

@@ -7,7 +7,7 @@ use Rattle.jz_meaning.specs.declared.access.Kind.TheVariants.{Undeclared}
 use Rattle.jz_meaning.specs.Runs.{result_words}
 use Rattle.jz_meaning.specs.States.{State}
 use Rattle.jz_meaning.specs.Statements.{source}
-use Rattle.jz_run_laws.specs.Kinds.{Kinds}
+use Rattle.jz_arrays.specs.Kinds.{Kinds}
 use Rattle.jz_change.specs.Changes.{Change}
 use Rattle.jz_pass.specs.Laws.{Carries, between_trees}
 use Rattle.jz_pass.specs.Rewriting.{Rewrites, knowing_of}

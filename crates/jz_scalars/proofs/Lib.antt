@@ -5,3 +5,6 @@ pub mod StatementForms
 pub mod Sorted
 pub mod Rewriting
 pub mod Keeping
+pub use Rattle.jz_inline.proofs.Copies
+pub use Rattle.jz_inline.proofs.Reading
+pub use Rattle.jz_inline.proofs.Renaming

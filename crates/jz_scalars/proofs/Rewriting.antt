@@ -19,8 +19,8 @@ use Rattle.jz_tree.specs.declared.stmt.StmtKind.TheFolds.{fold-StmtKind, fold-ro
 use Rattle.jz_runs.specs.Trees.{done, op, quiet, choose, loop, each}
 use Rattle.jz_meaning.specs.Statements.{Operation, assign, instruction, unset, meaningless, Condition, Counter, Block}
 use Rattle.jz_meaning.specs.Runs.{in_order, assign_tree, kind_tree, statement_tree, block}
-use Rattle.jz_interp.proofs.Pieces.{assign_is, if_is, while_is, for_is, mark_is}
-use Rattle.jz_run_laws.specs.Kinds.{Kinds}
+use Rattle.jz_inline.proofs.Pieces.{assign_is, if_is, while_is, for_is, mark_is}
+use Rattle.jz_arrays.specs.Kinds.{Kinds}
 use Rattle.jz_change.specs.declared.change.Numbers.{Numbers}
 use Rattle.jz_change.specs.declared.change.Step.{Step}
 use Rattle.jz_change.specs.declared.change.Step.TheVariants as step

@@ -18,8 +18,8 @@ use Rattle.jz_tree.specs.Span.{Span}
 use Rattle.jz_meaning.specs.Assignments.{as_expr, last_left, whole_of}
 use Rattle.jz_meaning.specs.Shapes.{Sort, words, flags, integers, Shape, own_count}
 use Rattle.jz_meaning.specs.Values.{ref_of}
-use Rattle.jz_run_laws.specs.Kinds.{Kinds, sort_of_kind, sorts_of}
-use Rattle.jz_bodies.specs.Scopes.{Scope, IsScope, is_over, is_access_over}
+use Rattle.jz_arrays.specs.Kinds.{Kinds, sort_of_kind, sorts_of}
+use Rattle.jz_inline.specs.Scopes.{Scope, IsScope, is_over, is_access_over}
 use Rattle.jz_inline.proofs.Reading.{over_layer, over_is, access_over_is}
 use Rattle.jz_inline.proofs.Widths.{declared_is, same_width}
 use Rattle.jz_unroll.proofs.Layers.{Layer}

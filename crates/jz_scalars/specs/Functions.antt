@@ -2,7 +2,7 @@
 use Rattle.std.specs.Prelude.{◌≡◌}
 use Rattle.jz_tree.specs.declared.program.Fun.{Fun}
 use Rattle.jz_meaning.specs.Runs.{entry_state}
-use Rattle.jz_run_laws.specs.Kinds.{Kinds, IsOfKinds}
+use Rattle.jz_arrays.specs.Kinds.{Kinds, IsOfKinds}
 use Rattle.jz_change.specs.Changes.{Change}
 use Rattle.jz_change.specs.Views.{steps_of}
 use Rattle.jz_pass.specs.Cases.{IsBetween, cases_of}

@@ -10,8 +10,8 @@ use Rattle.jz_meaning.specs.Assignments.{as_expr, last_left, whole_of}
 use Rattle.jz_meaning.specs.Shapes.{Sort, words, flags, integers}
 use Rattle.jz_meaning.specs.Statements.{Operation, assign, instruction, Condition, Block}
 use Rattle.jz_meaning.specs.Values.{Ref}
-use Rattle.jz_run_laws.specs.Kinds.{Kinds, sort_of_kind, sorts_of}
-use Rattle.jz_bodies.specs.Scopes.{is_over}
+use Rattle.jz_arrays.specs.Kinds.{Kinds, sort_of_kind, sorts_of}
+use Rattle.jz_inline.specs.Scopes.{is_over}
 use Rattle.jz_arrays.specs.Arrays.{IsRead, IsAssign, IsInstruction}
 
 abbrev pub same_sort : Sort → Sort → Bool

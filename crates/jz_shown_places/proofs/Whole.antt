@@ -22,8 +22,8 @@ use Rattle.jz_place.specs.Bodies as ir
 use Rattle.jz_declared.specs.Declared.{Differ, kept_of, stack_of}
 use Rattle.jz_declared.specs.Laws.{IsOfDeclarations}
 use Rattle.jz_declared.proofs.Places.{of_declarations}
-use Rattle.jz_lowering.specs.Functions.{plain_body, table_of, homes_for}
-use Rattle.jz_expansion.specs.declared.expanded.Expanded.{Expanded}
+use Rattle.jz_from_text.specs.Functions.{plain_body, table_of, homes_for}
+use Rattle.jz_expansion_cases.specs.Expanded.{Expanded}
 use Rattle.jz_listing.specs.declared.compiled.Compiled.{Compiled}
 use Rattle.jz_correct.specs.Frames.{saved_of, frame_end, frame_size}
 use Rattle.jz_correct.specs.Registers.{result_registers}
@@ -37,7 +37,7 @@ use Rattle.jz_compiled.specs.Showing.{OutsStayIn, CasesStayIn}
 use Rattle.jz_compiled.specs.Correct.{IsCompilation}
 use Rattle.jz_signature.specs.Laws.{stacked_as, IsUnstacked}
 use Rattle.jz_signature.proofs.StackLemmas.{stack_is}
-use Rattle.jz_compiling.specs.Made.{HasPlainHead}
+use Rattle.jz_from_text.specs.Made.{HasPlainHead}
 use Rattle.jz_from_text.specs.Laws.{IsCompiledFrom}
 use Rattle.jz_from_text.proofs.Head.{plain_head}
 use Rattle.jz_from_text.proofs.Parameters.{unstacked}

@@ -3,8 +3,8 @@ use Rattle.jz_tree.specs.declared.program.Fun.{Fun}
 use Rattle.jz_tree.specs.declared.program.Program.{Program}
 use Rattle.jz_meaning.specs.Runs.{body_of}
 use Rattle.jz_inline.specs.Functions.{own_names}
-use Rattle.jz_lowering.specs.Functions.{plain_body, homes_for}
-use Rattle.jz_expansion.specs.declared.expanded.Expanded.{Expanded}
+use Rattle.jz_from_text.specs.Functions.{plain_body, homes_for}
+use Rattle.jz_expansion_cases.specs.Expanded.{Expanded}
 use Rattle.jz_listing.specs.declared.compiled.Compiled.{Compiled}
 use Rattle.jz_compiled.specs.Layout.{layout_of}
 use Rattle.jz_compiled.specs.Showing.{CasesStayIn}

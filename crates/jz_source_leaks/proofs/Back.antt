@@ -55,7 +55,7 @@ use Rattle.jz_two_runs.proofs.Sides.{leaks_same}
 use Rattle.jz_two_runs.proofs.Flat.{flat_together, flat_made}
 use Rattle.jz_told_numbers.proofs.Told.{scalars_tell, rounds_tell, copies_tell}
 use Rattle.jz_equal_leaks.specs.Laws.{LeakTheSame}
-use Rattle.jz_safe_expansions.specs.SafeExpansions.{IsExpandedExport}
+use Rattle.jz_constant_leaks.specs.SafeExpansions.{IsExpandedExport}
 use Rattle.jz_constant_leaks.specs.ConstantLeaks.{LeakAlike}
 
 -- ---- the function's own variables, as the copy 0

@@ -8,7 +8,7 @@ use Rattle.jz_change.specs.Changes.{Change}
 use Rattle.jz_inline.specs.Functions.{Given, runs_of}
 use Rattle.jz_equal_leaks.specs.Laws.{AreEqualAtPublic, LeakTheSame}
 use Rattle.jz_ct.specs.Told.{IsConstantTime}
-use Rattle.jz_safe_expansions.specs.SafeExpansions.{IsExpandedExport}
+use Rattle.jz_constant_leaks.specs.SafeExpansions.{IsExpandedExport}
 use Rattle.jz_constant_leaks.specs.ConstantLeaks.{LeakAlike}
 
 -- two runs of the function, with one number of turns, that leak the same but for what this change

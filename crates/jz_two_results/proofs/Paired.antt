@@ -47,7 +47,7 @@ use Rattle.jz_standing.proofs.Typed.{flag_typed, typed, any_yields}
 use Rattle.jz_standing.proofs.Plain.{plain_flag, plain_word, scalar_size}
 use Rattle.jz_unstuck.proofs.Sums.{both_met, Runs, runs_then, runs_yields}
 use Rattle.jz_unstuck.proofs.Marks.{seat, says_same, put_elsewhere, scalar_elsewhere}
-use Rattle.jz_assigned.proofs.Assigning.{if_went, three, gained_scalar}
+use Rattle.jz_instructed.proofs.Assigning.{if_went, three, gained_scalar}
 use Rattle.jz_instructed.proofs.Instructing.{IsGot}
 use Rattle.jz_instructed.proofs.Lasts.{Behind, cell_behind, store_behind}
 use Rattle.jz_instructed.proofs.Lefts.{Half, word_held, declared_left, Before, here, as_here, half_behind, flag_run, pinned_run, last_goes}

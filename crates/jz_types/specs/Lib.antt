@@ -7,3 +7,15 @@ pub mod Guarantees
 pub mod Carried
 pub mod InnerFunctions
 pub mod InnerFaults
+pub use Rattle.jz_type_rows.specs.declared.callee.Callee
+pub use Rattle.jz_type_rows.specs.Callees
+pub use Rattle.jz_select.specs.declared.class.Class
+pub use Rattle.jz_type_rows.specs.Copies
+pub use Rattle.jz_type_rows.specs.Exports
+pub use Rattle.jz_select.specs.Look
+pub use Rattle.jz_select.specs.declared.class.Mask
+pub use Rattle.jz_type_rows.specs.Matching
+pub use Rattle.jz_select.specs.Operands
+pub use Rattle.jz_type_rows.specs.Programs
+pub use Rattle.jz_select.specs.Rows as SelectRows
+pub use Rattle.jz_select.specs.Sums

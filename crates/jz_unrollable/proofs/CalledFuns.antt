@@ -21,9 +21,9 @@ use Rattle.jz_runs.specs.Trees.{done}
 use Rattle.jz_meaning.specs.Statements.{Block}
 use Rattle.jz_meaning.specs.Runs as runs
 use Rattle.jz_meaning.specs.Runs.{Callee, Callees, in_order, call_tree, instruction_tree, body_tree, kind_tree, statement_tree, block, with_tree}
-use Rattle.jz_frames.specs.Frames.{Called, right_called, layer_called, calls_in, copies_in}
-use Rattle.jz_frames.specs.InnerFrames.{calls_from, all_copies}
-use Rattle.jz_frames.proofs.Needed.{copies_needed}
+use Rattle.jz_inlining.specs.Frames.{Called, right_called, layer_called, calls_in, copies_in}
+use Rattle.jz_inlining.specs.InnerFrames.{calls_from, all_copies}
+use Rattle.jz_inlining.proofs.Needed.{copies_needed}
 use Rattle.jz_ready.specs.CopiedKinds.{callees_of}
 
 -- ---- by calls

@@ -24,15 +24,15 @@ use Rattle.jz_texts.specs.Texts.{IsText, IsTextFun, IsPlain}
 use Rattle.jz_texts.specs.Declared.{HasDeclarations}
 use Rattle.jz_copies.specs.Called.{called_function}
 use Rattle.jz_pass.specs.Copying.{copies}
-use Rattle.jz_inline.specs.Names.{Names}
-use Rattle.jz_inline.specs.Calls.{callee_names}
-use Rattle.jz_inline.specs.Functions.{own_names}
-use Rattle.jz_inline.proofs.Naming.{own_name}
-use Rattle.jz_frames.specs.Frames.{Called, Group, all_in, right_called, layer_called, calls_in, own_params, copies_in, groups, frame_in, frame_of}
+use Rattle.jz_inlining.specs.Names.{Names}
+use Rattle.jz_inlining.specs.Calls.{callee_names}
+use Rattle.jz_inlining.specs.Functions.{own_names}
+use Rattle.jz_inlining.proofs.Naming.{own_name}
+use Rattle.jz_inlining.specs.Frames.{Called, Group, all_in, right_called, layer_called, calls_in, own_params, copies_in, groups, frame_in, frame_of}
 use Rattle.jz_inlining.specs.Inlined.{inlined_function}
 use Rattle.jz_unroll.specs.Values.{InlineNames}
 use Rattle.jz_unrolling_values.specs.InlineNames.{is_inline_named, inline_names}
-use Rattle.jz_unrolling_laws.specs.CalledBodies.{inlines_of}
+use Rattle.jz_copied_values.specs.CalledBodies.{inlines_of}
 use Rattle.jz_copied_values.specs.CopiedNames.{HasNames}
 use Rattle.jz_ready.specs.CopiedKinds.{callees_of}
 use Rattle.jz_ready.proofs.CopyNumbers.{Numbered, numbered}

@@ -21,11 +21,11 @@ use Rattle.jz_meaning.specs.Values.{ref_of}
 use Rattle.jz_texts.specs.Texts.{IsPlain}
 use Rattle.jz_texts.specs.Declared.{AreApart}
 use Rattle.jz_texts.proofs.Lists.{pairs_head, pairs_tail}
-use Rattle.jz_bodies.specs.Calls.{is_array}
-use Rattle.jz_bodies.proofs.Refs.{bytes_same, ref_name}
-use Rattle.jz_inline.specs.Names.{Names, var_in}
-use Rattle.jz_inline.proofs.Naming.{NoArray}
-use Rattle.jz_frames.specs.Frames.{Group, all_in, behind, merged, own_params}
+use Rattle.jz_ready.specs.Calls.{is_array}
+use Rattle.jz_ready.proofs.Refs.{bytes_same, ref_name}
+use Rattle.jz_inlining.specs.Names.{Names, var_in}
+use Rattle.jz_inlining.proofs.Naming.{NoArray}
+use Rattle.jz_inlining.specs.Frames.{Group, all_in, behind, merged, own_params}
 use Rattle.jz_unroll.proofs.InlineParts.{var_test}
 use Rattle.jz_unrolling_values.specs.InlineNames.{is_inline_named}
 

@@ -10,14 +10,14 @@ use Rattle.jz_texts.proofs.Declaring.{declarations_law}
 use Rattle.jz_meaning.specs.Statements.{Block}
 use Rattle.jz_meaning.specs.Values.{ref_of}
 use Rattle.jz_meaning.specs.Runs.{body_of}
-use Rattle.jz_bodies.proofs.Refs.{ref_copy}
+use Rattle.jz_ready.proofs.Refs.{ref_copy}
 use Rattle.jz_limits.specs.Values.{no_numbers}
-use Rattle.jz_inline.proofs.Made.{inlined_is}
+use Rattle.jz_inlining.proofs.Made.{inlined_is}
 use Rattle.jz_inlining.specs.Inlined.{inlined_function}
 use Rattle.jz_unroll.specs.Values.{InlineNames, is_inline_var}
 use Rattle.jz_unrolling_values.specs.InlineNames.{inline_names}
-use Rattle.jz_unrolling.specs.Fits.{Fits}
-use Rattle.jz_unrolling_laws.specs.CalledBodies.{Inlines, inlines_of}
+use Rattle.jz_copied_values.specs.Fits.{Fits}
+use Rattle.jz_copied_values.specs.CalledBodies.{Inlines, inlines_of}
 use Rattle.jz_copied_values.proofs.CopiedWhole.{whole_fits}
 use Rattle.jz_unrollable.specs.UnrollableLaws.{CopiesUnrollable}
 use Rattle.jz_unrollable.proofs.FrameNames.{frame_names}

@@ -1,1 +1,2 @@
 pub mod UnrollableLaws
+pub use Rattle.jz_ready.specs.CopiedKinds

@@ -8,8 +8,8 @@ use Rattle.jz_meaning.specs.Values.{ref_of}
 use Rattle.jz_meaning.specs.Runs.{body_of}
 use Rattle.jz_limits.specs.Values.{no_numbers}
 use Rattle.jz_inlining.specs.Inlined.{inlined_function}
-use Rattle.jz_unrolling.specs.Unrolled.{IsUnrollable}
-use Rattle.jz_unrolling_laws.specs.CalledBodies.{inlines_of, IsNamed, FitsCalled}
+use Rattle.jz_copied_values.specs.Unrolled.{IsUnrollable}
+use Rattle.jz_copied_values.specs.CalledBodies.{inlines_of, IsNamed, FitsCalled}
 
 -- of a typed program that comes of a text: where the body of a function, and the bodies that it
 -- calls, have values when a walk comes to them, and no result is inline

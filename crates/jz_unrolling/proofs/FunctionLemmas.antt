@@ -17,7 +17,7 @@ use Rattle.jz_pass.specs.Cases.{no_case}
 use Rattle.jz_pass.specs.Laws.{Carries, between_trees}
 use Rattle.jz_pass.proofs.Bodies.{unrolling_carries}
 use Rattle.jz_pass.proofs.CasesKept.{unrolled_cases}
-use Rattle.jz_inline.specs.Functions.{Given, body_runs}
+use Rattle.jz_function_runs.specs.Functions.{Given, body_runs}
 use Rattle.jz_unroll.specs.Values.{InlineNames, is_inline_var}
 use Rattle.jz_unroll.specs.Unrolling.{unrolling}
 use Rattle.jz_unroll.specs.ValueLaws.{DiffersInline, StandsFor}

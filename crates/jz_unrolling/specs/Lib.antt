@@ -3,3 +3,4 @@ pub mod Fits
 pub mod Steps
 pub mod Refusals
 pub mod Unrolled
+pub use Rattle.jz_function_runs.specs.FunctionRuns

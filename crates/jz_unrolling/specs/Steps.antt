@@ -10,7 +10,7 @@ use Rattle.jz_meaning.specs.Trees.{done, choose, loop, each}
 use Rattle.jz_meaning.specs.Runs.{block}
 use Rattle.jz_meaning.specs.Statements.{Operation, assign, Block}
 use Rattle.jz_interp.specs.InnerParts.{body_piece}
-pub use Rattle.jz_inline.specs.Statements.{no_callees}
+pub use Rattle.jz_function_runs.specs.Statements.{no_callees}
 use Rattle.jz_change.specs.Changes as model
 use Rattle.jz_change.specs.Views.{chain, then_step}
 use Rattle.jz_change.specs.declared.change.Numbers.TheVariants.{Same}

@@ -9,7 +9,7 @@ use Rattle.jz_change.specs.Changes.{Change}
 use Rattle.jz_pass.specs.Cases.{IsBetween, cases_of}
 use Rattle.jz_pass.specs.Laws.{Carries}
 use Rattle.jz_pass.specs.Unrolling.{Unrolls}
-use Rattle.jz_inline.specs.Functions.{body_runs}
+use Rattle.jz_function_runs.specs.Functions.{body_runs}
 use Rattle.jz_unroll.specs.Values.{is_inline_var}
 use Rattle.jz_unroll.specs.Unrolling.{marked_vars, unrolling}
 use Rattle.jz_function_runs.specs.FunctionRuns.{plain_body, alike_always}

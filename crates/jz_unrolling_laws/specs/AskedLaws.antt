@@ -9,7 +9,7 @@ use Rattle.jz_tree.specs.declared.expr.Expr.TheFolds.{para-Expr, para-Access}
 use Rattle.jz_type_names.specs.Kinds.{known_of, is_inline_int}
 use Rattle.jz_integers.specs.Integers.{KnownNumbers}
 use Rattle.jz_meaning.specs.Values.{Ref, ref_of}
-use Rattle.jz_bodies.specs.Scopes.{is_over, is_access_over}
+use Rattle.jz_inline.specs.Scopes.{is_over, is_access_over}
 use Rattle.jz_limits.specs.Asked.{told}
 use Rattle.jz_inline.specs.Names.{Names, expr_in}
 use Rattle.jz_unroll.specs.Values.{Beside, InlineNames, is_inline_var, has_values}

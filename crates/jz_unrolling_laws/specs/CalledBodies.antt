@@ -20,7 +20,7 @@ use Rattle.jz_meaning.specs.Assignments.{whole_of}
 use Rattle.jz_meaning.specs.Trees.{done, op, quiet, choose, loop, each, call}
 use Rattle.jz_meaning.specs.Statements.{Operation, assign, instruction, unset, meaningless, Counter, Call, Block, array_of}
 use Rattle.jz_meaning.specs.Values.{Ref, ref_of}
-use Rattle.jz_bodies.specs.Calls.{is_array, AreApart, params_of, vars_of}
+use Rattle.jz_inline.specs.BodiesCalls.{is_array, AreApart, params_of, vars_of}
 use Rattle.jz_limits.specs.Values.{is_int, inline_target, no_numbers, with_number, number_in, known_after}
 use Rattle.jz_limits.specs.Walks.{Walk, arms, turns, counted_values, loop_walk, with_arguments, walk}
 use Rattle.jz_unroll.specs.Values.{InlineNames, has_values, left_has_values, operation_has_values}

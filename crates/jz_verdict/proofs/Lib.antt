@@ -1,1 +1,2 @@
 pub mod Listed
+pub use Rattle.jz_ct.proofs.Expansions

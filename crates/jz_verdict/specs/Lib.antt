@@ -1,1 +1,2 @@
 pub mod Said
+pub use Rattle.jz_ct.specs.Told

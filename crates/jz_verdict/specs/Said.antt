@@ -8,7 +8,7 @@ use Rattle.jz_tree.specs.declared.program.Fun.{Fun}
 use Rattle.jz_tree.specs.declared.program.Program.{Program}
 use Rattle.jz_variable_text.specs.Variables.{variable_text}
 use Rattle.jz_change.specs.Changes.{Change}
-use Rattle.jz_expansion.specs.Expansions.{IsExpansion}
+use Rattle.jz_ct.specs.Expansions.{IsExpansion}
 use Rattle.jz_labels.specs.Labels.{Secret, named, memory}
 use Rattle.jz_labels.specs.Required.{Reason, Branch, Address, Divide, Breach}
 use Rattle.jz_ct.specs.Told.{IsConstantTime, HasFirstBreach}

@@ -6,9 +6,8 @@ ghost use Rattle.jz_ct.specs.Told.{secret_of, breach_of};
 ghost use Rattle.jz_verdict.specs.Said as listed;
 ghost use Rattle.jz_verdict.specs.Said.{secret_text, IsSaidOf, IsListedOf};
 
-use jz_ct::{Breach, Reason, Secret, judge};
+use jz_ct::{Breach, Expanded, Reason, Secret, judge};
 use jz_data::Text;
-use jz_expansion::Expanded;
 use jz_io::{Ct, CtKind};
 use jz_variable_text::push_variable;
 use std::alloc::{AllocError, Global};

@@ -38,8 +38,8 @@ use Rattle.jz_unroll.proofs.InlineParts.{inline_var, inline_is}
 use Rattle.jz_unroll.proofs.Layers.{Layer}
 use Rattle.jz_unroll.proofs.Valued.{known_is, parts_layer}
 use Rattle.jz_unroll.specs.Values as unrolled
-use Rattle.jz_unrolling_laws.specs.AskedLaws.{has_named, access_named}
-use Rattle.jz_unrolling_laws.proofs.AskedValues.{named_is, paired, told_is, asked_values, no_cells}
+use Rattle.jz_inline_laws.specs.AskedLaws.{has_named, access_named}
+use Rattle.jz_inline_laws.proofs.AskedValues.{named_is, paired, told_is, asked_values, no_cells}
 use Rattle.jz_inline_laws.specs.InlineParts.{IsNamedIf, IsOtherLeft, IsInlineNumber, IsInlineTruth}
 use Rattle.jz_walked_laws.proofs.Ones.{nothing_both}
 

@@ -16,7 +16,7 @@ use Rattle.jz_integers.specs.declared.constant.Constant.TheVariants as constant
 use Rattle.jz_meaning.specs.declared.access.Kind.{Kind}
 use Rattle.jz_meaning.specs.declared.access.Kind.TheVariants as kind
 use Rattle.jz_meaning.specs.Values.{ref_of}
-use Rattle.jz_bodies.specs.Calls as called
+use Rattle.jz_inline_laws.specs.Calls as called
 use Rattle.jz_limits.specs.declared.limit.Limit.{Limit}
 use Rattle.jz_limits.specs.declared.operands.Role.TheVariants as role
 use Rattle.jz_limits.specs.Values.{is_int, with_number, number_in}
@@ -24,7 +24,7 @@ use Rattle.jz_limits.specs.Asked.{told, asked_if, left_access, asked}
 use Rattle.jz_limits.specs.Walks.{is_array, copied_to, one_argument, argument_limits, with_argument, with_arguments, one_result, result_limits}
 use Rattle.jz_unroll.specs.Values.{left_has_values}
 use Rattle.jz_unroll.specs.Unrolling.{HasValue}
-use Rattle.jz_unrolling_laws.specs.CalledBodies.{ByTest, inlines_of, FitsArgument, FitArguments, IsGiven, FitsResult, FitResults}
+use Rattle.jz_inline_laws.specs.CalledBodies.{ByTest, inlines_of, FitsArgument, FitArguments, IsGiven, FitsResult, FitResults}
 use Rattle.jz_inline_laws.specs.InlineParts.{inline_in, IsInlineVar, IsPlainVar, IsOtherLeft, IsInlineNumber, PassesInline, passes_array, passes_number, passes_value, GivesInline, gives_array, gives_value, PassAll, GiveAll}
 use Rattle.jz_inline_laws.specs.InlineBodies.{HasInlineParam}
 use Rattle.jz_inline_laws.proofs.ClearVars.{ints_same}

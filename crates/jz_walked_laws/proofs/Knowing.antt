@@ -7,7 +7,7 @@ use Rattle.jz_tree.specs.declared.expr.Var.{Var}
 use Rattle.jz_tree.specs.declared.program.Fun.{Fun}
 use Rattle.jz_integers.specs.Integers.{KnownNumbers}
 use Rattle.jz_meaning.specs.Values.{ref_of}
-use Rattle.jz_bodies.proofs.Refs.{bytes_same}
+use Rattle.jz_inline_laws.proofs.Refs.{bytes_same}
 use Rattle.jz_limits.specs.Values.{with_number, number_of}
 use Rattle.jz_inline_laws.specs.InlineParts.{inline_in, NameSet, Within, WithinAnd}
 

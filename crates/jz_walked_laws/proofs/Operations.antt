@@ -23,8 +23,8 @@ use Rattle.jz_limits.specs.Values.{inline_target, with_number, truth_of, holds_i
 use Rattle.jz_limits.specs.Asked.{told, no_value, asked_if, value_of, set_parts, assigned_parts, in_kinds, asked}
 use Rattle.jz_unroll.specs.Unrolling.{ConditionIs}
 use Rattle.jz_unrolling_values.specs.Parts.{IsInlineIf}
-use Rattle.jz_unrolling_laws.specs.CalledBodies.{inlines_of, FitsOp, stays_so, sets_one}
-use Rattle.jz_unrolling_laws.proofs.AskedValues.{no_cells}
+use Rattle.jz_inline_laws.specs.CalledBodies.{inlines_of, FitsOp, stays_so, sets_one}
+use Rattle.jz_inline_laws.proofs.AskedValues.{no_cells}
 use Rattle.jz_inline_laws.specs.InlineParts.{inline_in, NameSet, WithinAnd, IsInlineNumber, IsInlineTest, IsInlineVar, HasOld, SetsInline, sets_inline, assigns, instructs}
 use Rattle.jz_inline_laws.proofs.ClearVars.{ints_same}
 use Rattle.jz_walked_laws.proofs.Ones.{nothing_both}

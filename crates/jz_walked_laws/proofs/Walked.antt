@@ -14,9 +14,9 @@ use Rattle.jz_limits.specs.Limits.{one}
 use Rattle.jz_limits.specs.Values.{no_numbers, with_number, number_of, number_in, known_after}
 use Rattle.jz_limits.specs.Asked.{asked, widths}
 use Rattle.jz_limits.specs.Walks.{limits, silent, arms, rounds, counted_values, more_than_eight, argument_limits, with_arguments, result_limits, walk}
-use Rattle.jz_unrolling_laws.specs.AskedLaws.{has_named}
-use Rattle.jz_unrolling_laws.proofs.AskedValues.{no_cells}
-use Rattle.jz_unrolling_laws.specs.CalledBodies.{inlines_of, IsStill, IsStillOp, IsAsked, IsTaken, FitsRounds, FitsCalled, IsNamed}
+use Rattle.jz_inline_laws.specs.AskedLaws.{has_named}
+use Rattle.jz_inline_laws.proofs.AskedValues.{no_cells}
+use Rattle.jz_inline_laws.specs.CalledBodies.{inlines_of, IsStill, IsStillOp, IsAsked, IsTaken, FitsRounds, FitsCalled, IsNamed}
 use Rattle.jz_inline_laws.specs.InlineParts.{inline_in, NameSet, Within, WithinAnd, SetsInline, sets_inline, assigns, instructs, CountsInline, PassAll, GiveAll}
 use Rattle.jz_inline_laws.specs.InlineBodies.{IsInlineBody, inline_done, inline_op, inline_choose, inline_loop, inline_each, inline_call, HasInlineParam, IsInlineFun}
 use Rattle.jz_walked_laws.proofs.Ones.{OnlyOnes, ones_both, no_limits, nothing_both, Takes, Asks, arms_met}

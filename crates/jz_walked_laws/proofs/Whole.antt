@@ -7,9 +7,9 @@ use Rattle.jz_tree.specs.declared.program.Fun.{Fun}
 use Rattle.jz_tree.specs.declared.program.Param.{Param}
 use Rattle.jz_tree.specs.declared.program.Program.{Program}
 use Rattle.jz_meaning.specs.Runs.{body_of}
-use Rattle.jz_bodies.proofs.Whole as whole
-use Rattle.jz_bodies.proofs.Whole.{all_known}
-use Rattle.jz_typed_runs.specs.TypedTexts.{IsTypedText}
+use Rattle.jz_inline_laws.proofs.BodiesWhole as whole
+use Rattle.jz_inline_laws.proofs.BodiesWhole.{all_known}
+use Rattle.jz_inline_laws.specs.TypedTexts.{IsTypedText}
 use Rattle.jz_limits.specs.Values.{no_numbers}
 use Rattle.jz_limits.specs.Walks.{walk}
 use Rattle.jz_unroll.specs.Values.{InlineNames}

@@ -5,11 +5,11 @@ use Rattle.jz_tree.specs.declared.program.Program.{Program}
 use Rattle.jz_type_rows.specs.Exports.{is_exported}
 use Rattle.jz_meaning.specs.Runs.{body_of}
 use Rattle.jz_meaning.specs.Values.{ref_of}
-use Rattle.jz_typed_runs.specs.TypedTexts.{IsTypedText}
+use Rattle.jz_inline_laws.specs.TypedTexts.{IsTypedText}
 use Rattle.jz_limits.specs.Values.{no_numbers}
 use Rattle.jz_first_limit.specs.FirstLimits.{IsWithinLimits}
-use Rattle.jz_unrolling_laws.specs.AskedLaws.{of_text}
-use Rattle.jz_unrolling_laws.specs.CalledBodies.{inlines_of, IsNamed, FitsCalled}
+use Rattle.jz_inline_laws.specs.AskedLaws.{of_text}
+use Rattle.jz_inline_laws.specs.CalledBodies.{inlines_of, IsNamed, FitsCalled}
 
 -- what stands in each body, with the bodies that it calls
 abbrev pub NamedLaw : Type 0

@@ -16,7 +16,7 @@ use Rattle.jz_compiling.specs.declared.compiling.NotCompiled.TheVariants as unco
 use Rattle.jz_compiling.specs.Made.{IsMadeOf}
 use Rattle.jz_compiling.specs.Refused.{HasNoHead, IsCodeless, IsNotCompiled}
 use Rattle.jz_compiling.proofs.Codeless.{not_codeless}
-use Rattle.jz_from_text.specs.Laws.{IsCompiledFrom}
+use Rattle.jz_shown_places.specs.FromTextLaws.{IsCompiledFrom}
 use Rattle.jz_shown_places.proofs.Placed.{frame_is_low}
 use Rattle.jz_shown_places.proofs.Whole.{is_compilation}
 use Rattle.jz_safe.specs.Texts.{IsExpandedFrom}

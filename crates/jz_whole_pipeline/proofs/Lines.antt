@@ -25,8 +25,8 @@ use Rattle.jz_meaning.specs.Values.{ref_of, declared_kind, kind_or}
 use Rattle.jz_bodies.proofs.Refs.{ref_kind, kind_from, decl_kind}
 use Rattle.jz_bodies.proofs.Whole.{IsKnown, all_known}
 use Rattle.jz_preconditions.specs.Refusals.{refused_places}
-use Rattle.jz_expansion.specs.declared.expanded.Expanded.{Expanded}
-use Rattle.jz_expanded_heads.proofs.Words.{IsWord, IsWordRet, HasWords, IfExported, exported_words}
+use Rattle.jz_safe.specs.ExpansionExpanded.{Expanded}
+use Rattle.jz_safe.proofs.Words.{IsWord, IsWordRet, HasWords, IfExported, exported_words}
 use Rattle.jz_given_laws.specs.GivenLaws.{HasFew}
 use Rattle.jz_given_laws.proofs.Parameters.{few_law}
 use Rattle.jz_listing.specs.declared.compiled.Arg.{Arg}

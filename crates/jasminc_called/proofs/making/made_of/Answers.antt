@@ -5,8 +5,8 @@ use Rattle.jz_tree.specs.declared.program.Program.{Program}
 use Rattle.jasminc_source.specs.Exports.{WithinIfExported, HasLimit}
 use Rattle.jasminc_source.proofs.Causing.{text_typed}
 use Rattle.jasminc_source.proofs.Stopping.{stage_refuses, ok_says}
-use Rattle.jasminc_expansions.proofs.Typing.{text_text}
-use Rattle.jasminc_check.specs.Safety.{HasAlarm}
+use Rattle.jasminc_compile.proofs.Typing.{text_text}
+use Rattle.jasminc_compile.specs.CheckSafety.{HasAlarm}
 use Rattle.jasminc_compile.specs.declared.refused.Refused.TheVariants.{Limit, Alarm, Making}
 use Rattle.jasminc_compile.specs.SafeFunctions.{AreSafe}
 use Rattle.jasminc_compile.specs.Making.{AreMade}

@@ -1,7 +1,7 @@
 use Rattle.std.proofs.Common.{◌≡◌, ◌<◌, length, sym, subst, rules}
 use Rattle.std.specs.Prelude.{Some, slice_get}
 use Rattle.jz_tree.specs.declared.program.Program.{Program}
-use Rattle.jasminc_expansions.proofs.Readying.{ready_below}
+use Rattle.jasminc_check.proofs.ExpansionsReadying.{ready_below}
 use Rattle.jasminc_compile.proofs.compiling.name_at.Goals as goal
 
 pub function_at-function-requires : goal.function_at-function-requires

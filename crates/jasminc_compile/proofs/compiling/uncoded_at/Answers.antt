@@ -1,6 +1,6 @@
 use Rattle.std.proofs.Common.{subst}
 use Rattle.jz_code.specs.declared.code.NoCode.{NoCode}
-use Rattle.jz_compiling.specs.declared.compiling.NotCompiled.TheVariants as uncompiled
+use Rattle.jz_whole_pipeline.specs.NotCompiled.TheVariants as uncompiled
 use Rattle.jasminc_compile.specs.InnerMaking.{IsRefusedAt}
 use Rattle.jasminc_compile.proofs.Making.{no_place}
 use Rattle.jasminc_compile.proofs.compiling.uncoded_at.Goals as goal

@@ -1,5 +1,5 @@
 use Rattle.std.proofs.Common.{subst}
-use Rattle.jz_compiling.specs.declared.compiling.NotCompiled.{NotCompiled}
+use Rattle.jz_whole_pipeline.specs.NotCompiled.{NotCompiled}
 use Rattle.jasminc_compile.specs.InnerMaking.{IsRefusedAt}
 use Rattle.jasminc_compile.proofs.compiling.unmade_at.Goals as goal
 

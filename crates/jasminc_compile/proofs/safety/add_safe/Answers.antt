@@ -4,7 +4,7 @@ use Rattle.std.proofs.lemmas.Result.{err_from_is_err_and}
 use Rattle.jz_tree.specs.declared.program.Program.{Program}
 use Rattle.jz_type_rows.specs.Exports.{is_exported}
 use Rattle.jz_pass.proofs.Refusing.{refused_too}
-use Rattle.jasminc_expansions.proofs.Readying.{among_ready}
+use Rattle.jasminc_check.proofs.ExpansionsReadying.{among_ready}
 use Rattle.jasminc_check.proofs.Readying.{alarm_at}
 use Rattle.jasminc_compile.proofs.Saving.{added, not_added}
 use Rattle.jasminc_compile.proofs.safety.add_safe.Goals as goal

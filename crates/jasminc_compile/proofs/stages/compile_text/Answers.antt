@@ -9,7 +9,7 @@ use Rattle.jasminc_source.specs.Unreadable.{IsUnread}
 use Rattle.jasminc_source.specs.Exports.{WithinIfExported, HasLimit}
 use Rattle.jasminc_source.proofs.Causing.{text_typed}
 use Rattle.jasminc_source.proofs.Stopping.{stage_refuses, ok_says}
-use Rattle.jasminc_expansions.proofs.Typing.{text_text}
+use Rattle.jasminc_check.proofs.Typing.{text_text}
 use Rattle.jasminc_check.specs.Safety.{HasAlarm}
 use Rattle.jasminc_compile.specs.declared.refused.Refused.TheVariants.{Unread, Limit, Alarm, Making}
 use Rattle.jasminc_compile.specs.declared.stages.Compilation.{Compilation}

@@ -1,8 +1,8 @@
 use Rattle.std.proofs.Common.{rules, ◌≤◌, ◌∙◌, refl, ap, sym, subst, arith}
 use Rattle.std.specs.Option.{option_copied}
 use Rattle.jz_tree.specs.declared.stmt.StmtKind.TheVariants as kind
-use Rattle.jz_interp.proofs.Falls.{weights_at, weight_if, weight_assign, weight_for, weight_while, one_deeper}
-use Rattle.jz_interp.proofs.Weights.{weight, weights, body_weight}
+use Rattle.jz_copies.proofs.Falls.{weights_at, weight_if, weight_assign, weight_for, weight_while, one_deeper}
+use Rattle.jz_copies.proofs.Weights.{weight, weights, body_weight}
 use Rattle.jz_inline.specs.Names.{var_in, expr_in}
 use Rattle.jz_inline.specs.CopiedNames.{names_of}
 use Rattle.jz_inline.specs.Statements.{CopiedFuns, body_piece}

@@ -1,5 +1,5 @@
 use Rattle.std.proofs.Common.{◌+◌, ◌*◌, drop}
-use Rattle.jz_interp.proofs.Weights.{weight, weights, body_weight, level}
+use Rattle.jz_copies.proofs.Weights.{weight, weights, body_weight, level}
 use Rattle.jz_inline.specs.CopiedNames.{names_of}
 use Rattle.jz_inlining.specs.InnerCopies.{block_in}
 use Rattle.jz_inlining.proofs.Blocks.{IsLeft}

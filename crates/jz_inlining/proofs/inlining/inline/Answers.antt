@@ -1,5 +1,5 @@
 use Rattle.std.proofs.Common.{ap, ◌∙◌, subst}
-use Rattle.jz_interp.proofs.Starts.{found_at}
+use Rattle.jz_copies.proofs.Starts.{found_at}
 use Rattle.jz_inlining.specs.Inlined.{IsInlining, IsInlined}
 use Rattle.jz_inlining.proofs.Kept.{keeps}
 use Rattle.jz_inlining.proofs.inlining.inline.Goals as goal

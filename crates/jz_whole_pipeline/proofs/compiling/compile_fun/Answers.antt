@@ -1,5 +1,5 @@
 use Rattle.std.proofs.Common.{◌≡◌, ◌∙◌, ap}
-use Rattle.jz_expansion.specs.declared.expanded.Expanded.{Expanded}
+use Rattle.jz_safe.specs.ExpansionExpanded.{Expanded}
 use Rattle.jz_first_alarm.proofs.Stepping.{handed_on}
 use Rattle.jz_compiling.specs.Refused.{IsNotCompiled}
 use Rattle.jz_whole_pipeline.specs.Correctness.{IsRefusedFor}
