@@ -26,7 +26,7 @@ use Rattle.jz_pass.specs.Laws.{Carries}
 use Rattle.jz_function_runs.specs.FunctionRuns.{plain_body}
 use Rattle.jz_place.specs.Bodies as ir
 use Rattle.jz_homes.specs.Homes.{Homes, IsHoming}
-use Rattle.jz_row_operations.specs.Bodies.{beside}
+use Rattle.jz_every_row.specs.Bodies.{beside}
 use Rattle.jz_homing.specs.Tables as homing
 use Rattle.jz_homing.specs.Tables.{no_homes}
 use Rattle.jz_homing.proofs.EntryLemmas.{none_entered, all_entered}

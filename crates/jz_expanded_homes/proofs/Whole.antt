@@ -12,6 +12,7 @@ use Rattle.jz_texts.specs.Texts.{IsText, IsTextFun, IsPlain}
 use Rattle.jz_texts.proofs.Declaring.{declarations_law}
 use Rattle.jz_change.specs.Changes.{Change}
 use Rattle.jz_inlining.specs.Inlined.{inlined_function}
+use Rattle.jz_unrolling_values.specs.InlineNames.{inline_names}
 use Rattle.jz_scalars.specs.Functions.{function_with_scalars}
 use Rattle.jz_function_runs.specs.FunctionRuns.{plain_body}
 use Rattle.jz_ready.specs.CopiedKinds.{copied_kinds}
@@ -30,6 +31,7 @@ use Rattle.jz_ready_expansions.proofs.Whole.{expansions_are_ready}
 use Rattle.jz_expanded_homes.specs.ExpandedHomes.{ExpansionsHaveHomes, ExpansionsAreReady}
 use Rattle.jz_expanded_homes.proofs.Declared.{differ_left}
 use Rattle.jz_expanded_homes.proofs.Homed.{whole_homed, cell_homed}
+use Rattle.jz_expanded_homes.proofs.Standing.{rounds_are_standing}
 use Rattle.jz_expanded_homes.proofs.Bodies.{body_expanded}
 
 module _ (p : Program) (f g : Fun) (k : Change) (count : ℕ) (typed : IsTypedProgram p) (text : IsText p) (has : Contains p.funs f) (exported : is_exported f.kind ≡ true) (x : IsExpansion p f g k count) where
@@ -59,7 +61,7 @@ module _ (p : Program) (f g : Fun) (k : Change) (count : ℕ) (typed : IsTypedPr
       body_expanded (expanded_kinds p f) (frame_of p f) (homes_for expansion) P
       (whole_homed p f x.unrolled plain_text x.head differ (homes_for expansion) declared (expanded_kinds p f))
       (cell_homed p f x.unrolled plain_text x.head differ (homes_for expansion) declared)
-      (copied_kinds p f) (rewritten p f g k count typed text has x within) (rounds p f g k count typed text has x within) (λ n. tt) plain
+      (copied_kinds p f) (rewritten p f g k count typed text has x within) (rounds p f g k count typed text has x within) (rounds_are_standing (inline_names (variables_of (inlined_function p f))) x.body.body) (λ n. tt) plain
 
 pub have_homes : ExpansionsHaveHomes
 have_homes p f g k count typed text has exported x =

@@ -22,13 +22,12 @@ use Rattle.jz_place.specs.declared.tree.Passed.{Passed}
 use Rattle.jz_place.specs.Bodies.{body_of}
 use Rattle.jz_codable.specs.Ready.{IsReady, IsShort}
 use Rattle.jz_homes.specs.Homes.{Homes}
-use Rattle.jz_row_operations.specs.Bodies.{beside}
+use Rattle.jz_every_row.specs.Bodies.{beside}
 use Rattle.jz_lowered.specs.Functions.{ArePassed, IsLoweredFun}
 use Rattle.jz_short.specs.Lengths.{statements_in}
 use Rattle.jz_operands.specs.TableHomes.{homes_by}
 use Rattle.jz_homing.specs.Tables.{Table, no_homes, with_vars, frame_of}
 use Rattle.jz_homing.specs.Refusals.{IsHomeless}
-use Rattle.jz_total_rows.specs.Bodies.{IsCoveredBody}
 use Rattle.jz_lowering.specs.declared.functions.LoweredFun.{LoweredFun}
 use Rattle.jz_lowering.specs.Becoming.{no_callees}
 use Rattle.jz_lowering.specs.Parts.{parts_in, IsFirstWithout}
@@ -75,10 +74,6 @@ KeepsCases f l k = IsBetween (cases_of (plain_body f)) (cases_of (body_of l.ir.b
 abbrev pub IsReadyFun : LoweredFun → Type 0
 IsReadyFun l = IsReady l.ir
 
--- each of its statements is one of which there are operations, and each of its tests a comparison
-abbrev pub OnlyCovered : Fun → Type 0
-OnlyCovered f = IsCoveredBody (plain_body f)
-
 -- ---- why a function is refused, where what comes before is there
 pub data Refuses (f : Fun) : Span → Type 0 where
   no_home : {at : Span} → IsHomeless no_homes (variables_of f) at → Refuses f at
@@ -95,9 +90,9 @@ pub data Refuses (f : Fun) : Span → Type 0 where
       → ArePassed (homes_for f) argument_registers (map (λ p. p.var) f.params) ps
       → ArePassed (homes_for f) result_registers f.result rs
       → IsFirstWithout (homes_for f) (parts_in (plain_body f)) at → Refuses f at
-  -- it has 2^25 statements or more, those in branches and loops too, or 2^32 variables; and what it
+  -- it has 2^24 statements or more, those in branches and loops too, or 2^32 variables; and what it
   -- is as operations is too long
   too_long :
-      (2 ^ 25 ≤ statements_in (plain_body f)) ⊎ (2 ^ 32 ≤ length (table_of f).kinds)
+      (2 ^ 24 ≤ statements_in (plain_body f)) ⊎ (2 ^ 32 ≤ length (table_of f).kinds)
       → (l : LoweredFun) → IsFunctionLowered f l (change_of l.change) → (IsShort l.ir → ⊥)
       → Refuses f f.span
