@@ -11,4 +11,3 @@ mod sizes;
 mod words;
 
 pub use instructing::instruct;
-pub use sizes::intrinsic_size;
