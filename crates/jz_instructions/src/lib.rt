@@ -11,6 +11,5 @@ mod products;
 mod shaping;
 mod testing;
 mod unary;
-mod word_sizes;
 
 pub use instructing::{begins_at, instruction_row};

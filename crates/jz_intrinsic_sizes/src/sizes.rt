@@ -5,8 +5,7 @@ ghost use Rattle.jz_meaning.specs.Intrinsics as intrinsics;
 
 use jz_meaning::own_size;
 use jz_run_assign::left_sizes;
-use jz_tree::{Expr, Instance, Intrinsic, Lval, Seq};
-use x64_insn::Size;
+use jz_tree::{Expr, Instance, Intrinsic, Lval, Seq, Size};
 
 /// The size of the first operand that has one.
 fn first_size(operands: &[Expr]) -> Option<Size>
@@ -23,7 +22,7 @@ fn first_size(operands: &[Expr]) -> Option<Size>
 
 /// The size that the name says, or that of the left sides, or that of the first operand that has
 /// one.
-pub(crate) fn intrinsic_size(instance: Instance, to: &Seq<Lval>, operands: &[Expr]) -> Option<Size>
+pub fn intrinsic_size(instance: Instance, to: &Seq<Lval>, operands: &[Expr]) -> Option<Size>
     ensures { result ≡ intrinsics.intrinsic_size instance.name instance.size to.now operands.now }
 {
     match instance.name {
