@@ -1,5 +1,5 @@
 -- The actions of products of two words and of quotients, by RAX and RDX.
-use Rattle.std.specs.Prelude.{ℕ, nat_eq, ◌+◌, Bool, true, false, not, ◌&&◌, if◌then◌else◌, List, [], ◌∷◌, ◌++◌, Option, Some, None, pos, ⊤}
+use Rattle.std.specs.Prelude.{ℕ, nat_eq, ◌+◌, Bool, true, false, not, ◌&&◌, List, [], ◌∷◌, ◌++◌, Option, Some, None, pos, ⊤}
 use Rattle.jz_words.specs.declared.size.Size.{Size}
 use Rattle.jz_words.specs.declared.size.Size.TheVariants.{S32, S64}
 use Rattle.x64_insn.specs.declared.types.Wide.{Wide}
@@ -36,11 +36,6 @@ is_pinned _ x = false
 abbrev pub is_apart : Option Pinned → Arg → Bool
 is_apart None x = true
 is_apart (Some k) x = not (among (is_var x ++ found_by x) k.variable)
-
--- a result whose variable a later one of the same statement has too is as `_`
-abbrev pub unless_later : Option Pinned → Option Pinned → Option Pinned
-unless_later (Some a) (Some b) = if nat_eq a.variable b.variable then None else Some a
-unless_later a b = a
 
 -- ---- `h, l = a * b`
 -- The low word's variable is the first operand; or the first operand is no number and the low
