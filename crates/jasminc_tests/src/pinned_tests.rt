@@ -609,6 +609,146 @@ static UNPLACED: [Row; 44] = [
     },
 ];
 
+/// What writes a flag, RAX or RDX, each alone.
+static WRITTEN: [Row; 17] = [
+    // SETcc of a comparison writes flags
+    Row {
+        words: COMPILE,
+        text: b"export fn clob(reg u64 x y) -> reg u64 {\n  reg u64 r;\n  reg bool cf;\n  reg u8 b;\n  cf, x += y;\n  b = #SETcc(x < y);\n  r = x;\n  r += 0 + cf;\n  return r;\n}\n",
+        status: Status::NoPlace,
+        written: "no place cf needs cf@5:3 cf@8:12 held cf=*@6:3\n",
+        made: 0,
+    },
+    // CMP of an intrinsic writes flags
+    Row {
+        words: COMPILE,
+        text: b"export fn clob(reg u64 x y) -> reg u64 {\n  reg u64 r;\n  reg bool cf;\n  reg u64 h l;\n  cf, x += y;\n  _, _, _, _, _ = #CMP(x, y);\n  r = x;\n  r += 0 + cf;\n  return r;\n}\n",
+        status: Status::NoPlace,
+        written: "no place cf needs cf@5:3 cf@8:12 held cf=*@6:3\n",
+        made: 0,
+    },
+    // a product of two halves writes flags
+    Row {
+        words: COMPILE,
+        text: b"export fn clob(reg u64 x y) -> reg u64 {\n  reg u64 r;\n  reg bool cf;\n  reg u64 h l;\n  cf, x += y;\n  h, l = x * y;\n  r = x;\n  r += 0 + cf;\n  return r;\n}\n",
+        status: Status::NoPlace,
+        written: "no place cf needs cf@5:3 cf@8:12 held cf=*@6:3\n",
+        made: 0,
+    },
+    // a product writes flags
+    Row {
+        words: COMPILE,
+        text: b"export fn clob(reg u64 x y) -> reg u64 {\n  reg u64 r;\n  reg bool cf;\n  reg u64 h l;\n  cf, x += y;\n  x *= y;\n  r = x;\n  r += 0 + cf;\n  return r;\n}\n",
+        status: Status::NoPlace,
+        written: "no place cf needs cf@5:3 cf@8:12 held cf=*@6:3\n",
+        made: 0,
+    },
+    // NEG writes CF
+    Row {
+        words: COMPILE,
+        text: b"export fn clob(reg u64 x y) -> reg u64 {\n  reg u64 r;\n  reg bool cf;\n  reg u64 h l;\n  cf, x += y;\n  x = -x;\n  r = x;\n  r += 0 + cf;\n  return r;\n}\n",
+        status: Status::NoPlace,
+        written: "no place cf needs cf@5:3 cf@8:12 held cf=*@6:3\n",
+        made: 0,
+    },
+    // AND writes CF
+    Row {
+        words: COMPILE,
+        text: b"export fn clob(reg u64 x y) -> reg u64 {\n  reg u64 r;\n  reg bool cf;\n  reg u64 h l;\n  cf, x += y;\n  x &= y;\n  r = x;\n  r += 0 + cf;\n  return r;\n}\n",
+        status: Status::NoPlace,
+        written: "no place cf needs cf@5:3 cf@8:12 held cf=*@6:3\n",
+        made: 0,
+    },
+    // a shift writes CF
+    Row {
+        words: COMPILE,
+        text: b"export fn clob(reg u64 x y) -> reg u64 {\n  reg u64 r;\n  reg bool cf;\n  reg u64 h l;\n  cf, x += y;\n  x <<= 3;\n  r = x;\n  r += 0 + cf;\n  return r;\n}\n",
+        status: Status::NoPlace,
+        written: "no place cf needs cf@5:3 cf@8:12 held cf=*@6:3\n",
+        made: 0,
+    },
+    // TEST writes flags
+    Row {
+        words: COMPILE,
+        text: b"export fn clob(reg u64 x y) -> reg u64 {\n  reg u64 r;\n  reg bool cf;\n  reg u64 h l;\n  cf, x += y;\n  _, _, _, _, _ = #TEST(x, y);\n  r = x;\n  r += 0 + cf;\n  return r;\n}\n",
+        status: Status::NoPlace,
+        written: "no place cf needs cf@5:3 cf@8:12 held cf=*@6:3\n",
+        made: 0,
+    },
+    // a rotation by CL writes CF
+    Row {
+        words: COMPILE,
+        text: b"export fn clob(reg u64 x y) -> reg u64 {\n  reg u64 r;\n  reg bool cf;\n  reg u8 b;\n  b = (8u)y;\n  cf, x += y;\n  x <<r= b & 63;\n  r = x;\n  r += 0 + cf;\n  return r;\n}\n",
+        status: Status::NoPlace,
+        written: "no place cf needs cf@6:3 cf@9:12 held cf=*@7:3\n",
+        made: 0,
+    },
+    // a division writes flags: written by DIV; the MOVs keep flags
+    Row {
+        words: COMPILE,
+        text: b"export fn clob(reg u64 x y) -> reg u64 {\n  reg u64 q k;\n  reg bool cf;\n  k = 3;\n  cf, x += y;\n  q = x / k;\n  q += 0 + cf;\n  return q;\n}\n",
+        status: Status::NoPlace,
+        written: "no place cf needs cf@5:3 cf@7:12 held cf=*@6:3\n",
+        made: 0,
+    },
+    // a signed divisor in RDX: CQO is the fixed write
+    Row {
+        words: COMPILE,
+        text: b"#[range=\"d: 1..9\"]\nexport fn f(reg u64 x y d) -> reg u64 {\n  reg u64 r;\n  r = x /s d;\n  return r;\n}\n",
+        status: Status::NoPlace,
+        written: "no place d needs rdx@2:25 held rdx=*@4:3\n",
+        made: 0,
+    },
+    // a remainder in RDX: z is live over the division
+    Row {
+        words: COMPILE,
+        text: b"#[range=\"d: 1..9\"]\nexport fn f(reg u64 x d z) -> reg u64 {\n  reg u64 m r;\n  m = x % d;\n  r = z;\n  r += m;\n  return r;\n}\n",
+        status: Status::NoPlace,
+        written: "no place m needs rdx@4:3 held rdx=z@4:3\n",
+        made: 0,
+    },
+    // a carry of an intrinsic: ZF of the one, CF of the other
+    Row {
+        words: COMPILE,
+        text: b"export fn f(reg u64 x y) -> reg u64 {\n  reg u64 r;\n  reg bool b;\n  _, _, _, _, b = #CMP(x, y);\n  r = x;\n  _, _, _, _, _, r = #ADC(r, y, b);\n  return r;\n}\n",
+        status: Status::NoPlace,
+        written: "no place b needs zf@4:15 cf@6:33 held -\n",
+        made: 0,
+    },
+    // a count of an intrinsic
+    Row {
+        words: COMPILE,
+        text: b"export fn f(reg u64 x y z w) -> reg u64 {\n  reg u64 r;\n  reg u8 c;\n  r = x;\n  c = (8u)y;\n  _, _, _, _, _, r = #SHL(r, c & 63);\n  r += w;\n  return r;\n}\n",
+        status: Status::NoPlace,
+        written: "no place c needs rcx@6:30 held rcx=w@5:3\n",
+        made: 0,
+    },
+    // the high word of #MUL
+    Row {
+        words: COMPILE,
+        text: b"export fn f(reg u64 x y z) -> reg u64 {\n  reg u64 h l;\n  _, _, _, _, _, h, l = #MUL(x, y);\n  l ^= h;\n  l ^= z;\n  return l;\n}\n",
+        status: Status::NoPlace,
+        written: "no place h needs rdx@3:18 held rdx=z@3:3\n",
+        made: 0,
+    },
+    // the high word of #MUL that nobody takes
+    Row {
+        words: COMPILE,
+        text: b"export fn f(reg u64 x y d) -> reg u64 {\n  reg u64 l;\n  _, _, _, _, _, _, l = #MUL(x, y);\n  l += d;\n  return l;\n}\n",
+        status: Status::NoPlace,
+        written: "no place d needs rdx@1:25 held rdx=*@3:3\n",
+        made: 0,
+    },
+    // 32 bits in RDX
+    Row {
+        words: COMPILE,
+        text: b"export fn f(reg u32 x y z) -> reg u32 {\n  reg u32 h l;\n  h, l = x * y;\n  l ^= h;\n  l ^= z;\n  return l;\n}\n",
+        status: Status::NoPlace,
+        written: "no place h needs rdx@3:3 held rdx=z@3:3\n",
+        made: 0,
+    },
+];
+
 #[test]
 fn flags_and_halves_are_placed(rt: HostRuntime) -> Result<(), Fail> {
     answer_rows(&rt, rt.alloc(), &PLACED)
@@ -622,4 +762,9 @@ fn flags_and_halves_run(rt: HostRuntime) -> Result<(), Fail> {
 #[test]
 fn needs_are_told(rt: HostRuntime) -> Result<(), Fail> {
     answer_rows(&rt, rt.alloc(), &UNPLACED)
+}
+
+#[test]
+fn each_write_is_told(rt: HostRuntime) -> Result<(), Fail> {
+    answer_rows(&rt, rt.alloc(), &WRITTEN)
 }
