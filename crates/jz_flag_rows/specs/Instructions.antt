@@ -205,4 +205,5 @@ pub data HasInstruction (home : Homes) (z : Size) :
       → IsArg home z hi x p → IsArg home z lo y s → IsArg home z c w u → NotImm w
       → is_apart qk x ≡ true → is_apart qk w ≡ true → is_apart rk w ≡ true
       → HasInstruction home z name.Div to (hi ∷ lo ∷ c ∷ []) fl
-      (divide_two_code z qk rk x y w) (divide_two_shown p s u)
+      (divide_two_code z qk rk x y w)
+      (divide_two_shown p s u)

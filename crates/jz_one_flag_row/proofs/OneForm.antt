@@ -1,6 +1,5 @@
 -- An intrinsic of one form has one list of actions.
-use Rattle.std.proofs.Common.{◌≡◌, ℕ, Bool, true, false, List, [], ◌∷◌, ◌++◌, Option, Some, None, refl, sym, ap, ◌∙◌, subst}
-use Rattle.std.specs.Prelude.{not}
+use Rattle.std.proofs.Common.{◌≡◌, ℕ, Bool, List, [], ◌∷◌, ◌++◌, Option, Some, None, refl, sym, ap, ◌∙◌, subst}
 use Rattle.jz_words.specs.declared.size.Size.{Size}
 use Rattle.jz_words.specs.declared.size.Size.TheVariants.{S64}
 use Rattle.jz_tree.specs.declared.intrinsic.Intrinsic.{Intrinsic}
@@ -11,7 +10,6 @@ use Rattle.x64_insn.specs.declared.types.Shift.{Shift}
 use Rattle.jz_tree.specs.declared.expr.BinOp.TheVariants as op
 use Rattle.jz_tree.specs.declared.expr.Expr.{Expr}
 use Rattle.jz_tree.specs.declared.expr.Expr.TheVariants as expr
-use Rattle.jz_tree.specs.declared.expr.Expr.TheOpen.{Expr-F}
 use Rattle.jz_tree.specs.declared.expr.Expr.TheViews.{out-Expr}
 use Rattle.jz_tree.specs.declared.expr.Var.{Var}
 use Rattle.jz_tree.specs.declared.stmt.Lval.{Lval}
@@ -27,7 +25,7 @@ use Rattle.jz_operations.proofs.Somes.{same_some}
 use Rattle.jz_change.specs.declared.change.Numbers.{Numbers}
 use Rattle.jz_change.specs.declared.change.Numbers.TheVariants.{These}
 use Rattle.jz_homes.specs.Homes.{Homes}
-use Rattle.jz_homes.specs.Operands.{Leaks, silent, count_of, IsArg, IsDest}
+use Rattle.jz_homes.specs.Operands.{silent, count_of}
 use Rattle.jz_row_operations.specs.Table.{two_code, one_code}
 use Rattle.jz_row_operations.specs.Lowering.{numbers_from, two_shown, one_shown}
 use Rattle.jz_one_row.proofs.Outs.{out_var}
