@@ -65,7 +65,7 @@ met_apart : (places : ℕ → Place) (p q : Option Pinned) → NeedsMet places (
 met_apart places None None h = tt
 met_apart places None (Some q) h = tt
 met_apart places (Some p) None h = tt
-met_apart places (Some p) (Some q) h = λ e. let both : place.Reg reg.Rax ≡ place.Reg reg.Rdx = sym h.0 ∙ sym (ap places e) ∙ h.1.0 in cc
+met_apart places (Some p) (Some q) h = λ e. let both : place.Reg reg.Rax ≡ place.Reg reg.Rdx = sym h.0 ∙ ap places e ∙ h.1.0 in cc
 
 pub wide_apart : (places : ℕ → Place) (at : Span) (fl : Flags) (op : Wide) (z : Size) (l h : Option Pinned) (y : Arg) → NeedsMet places (needs_of (record { span = at; action = action.Wide op z l h y; flags = fl })) → AreApart l h
 wide_apart places at fl op z l h y m =
