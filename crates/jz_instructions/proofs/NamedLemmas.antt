@@ -131,11 +131,11 @@ module _ (home : Homes) (to : List Lval) (ns : List ℕ) (es : List Expr) where
   unspelled none at os is h = let r = is_named home ns to es at os is h in no_name r.0 (sym none ∙ r.1)
 
   module _ (i : Instance) (spells : spelled ns ≡ Some i) where
-    no_byte_named : (at : Span) (os : List Operation) (is : List Numbers) → i.name ≡ name.Setcc → NeverByteOf home to es → Named i at os is → ⊥
+    no_byte_named : (at : Span) (os : List Operation) (is : List Numbers) → i.name ≡ name.Setcc → NeverByteOf home to es → Named home to ns es i at os is → ⊥
     no_byte_named at os is byte none (by_row {z} {fl} {acts} {items} size row can) = no_byte home z i.name to es fl acts items byte row
     no_byte_named at os is byte none (by_byte {d} {e} {b} {r} {compare} {c} {ps} left operand same dest cond can) = none d e left operand (left_span d) b r compare c ps dest cond can
 
-    no_row_named : (at : Span) (os : List Operation) (is : List Numbers) → (i.name ≡ name.Setcc → ⊥) → NeverSized home i to es → Named i at os is → ⊥
+    no_row_named : (at : Span) (os : List Operation) (is : List Numbers) → (i.name ≡ name.Setcc → ⊥) → NeverSized home i to es → Named home to ns es i at os is → ⊥
     no_row_named at os is other none (by_row {z} {fl} {acts} {items} size row can) = none z fl acts items size (by_form home z i.name to es fl acts items row) can
     no_row_named at os is other none (by_byte {d} {e} {b} {r} {compare} {c} {ps} left operand same dest cond can) = other same
 
