@@ -36,7 +36,7 @@ use Rattle.jz_row_operations.specs.Rows.{IsWide, NotImm, mask_of}
 use Rattle.jz_row_operations.specs.Table.{is_imm, nothing, brought, behind, two_code, one_code, times_code, times_by_code, shift_code, shift_by_code}
 use Rattle.jz_row_operations.specs.Lowering.{numbers_from, two_shown, one_shown}
 use Rattle.jz_flag_rows.specs.Results.{IsPinned, AreFive, AreFour, AreTwo}
-use Rattle.jz_flag_rows.specs.Wide.{IsLong, is_apart, unless_later, wide_code, wide_shown, divide_two_code, divide_two_shown}
+use Rattle.jz_flag_rows.specs.Wide.{IsLong, is_apart, wide_code, wide_shown, divide_two_code, divide_two_shown}
 
 -- ---- names
 -- of two operands: the operation, and whether the operands may be swapped
@@ -196,7 +196,7 @@ pub data HasInstruction (home : Homes) (z : Size) :
       {fl : Flags} {acts : List Action}
       → IsLong z → AreFive home to fl (h ∷ l ∷ []) → IsPinned home z h hk → IsPinned home z l lk
       → IsArg home z a x p → IsArg home z c y q → NotImm y
-      → wide_code z (unless_later hk lk) lk x y ≡ Some acts
+      → wide_code z hk lk x y ≡ Some acts
       → HasInstruction home z name.Mul to (a ∷ c ∷ []) fl acts (wide_shown lk x y p q)
   division :
       {to : List Lval} {q r : Lval} {qk rk : Option Pinned} {hi lo c : Expr} {x y w : Arg}
@@ -205,5 +205,5 @@ pub data HasInstruction (home : Homes) (z : Size) :
       → IsArg home z hi x p → IsArg home z lo y s → IsArg home z c w u → NotImm w
       → is_apart qk x ≡ true → is_apart qk w ≡ true → is_apart rk w ≡ true
       → HasInstruction home z name.Div to (hi ∷ lo ∷ c ∷ []) fl
-      (divide_two_code z (unless_later qk rk) rk x y w)
+      (divide_two_code z qk rk x y w)
       (divide_two_shown p s u)

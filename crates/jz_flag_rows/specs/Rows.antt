@@ -42,7 +42,7 @@ use Rattle.jz_row_operations.specs.Codes.{no_flag, plain, lasting}
 use Rattle.jz_row_operations.specs.Rows.{IsWide, NotImm}
 use Rattle.jz_row_operations.specs.Lowering.{numbers_from, HasRow}
 use Rattle.jz_flag_rows.specs.Results.{begins_at, IsFlag, IsPinned, carry_alone}
-use Rattle.jz_flag_rows.specs.Wide.{IsLong, divider, is_apart, unless_later, wide_code, wide_shown, quotient_code, divide_shown}
+use Rattle.jz_flag_rows.specs.Wide.{IsLong, divider, is_apart, wide_code, wide_shown, quotient_code, divide_shown}
 use Rattle.jz_flag_rows.specs.Conditions.{IsFlagCondition, IsCondition, condition_items, leaked}
 use Rattle.jz_flag_rows.specs.Instructions.{HasInstruction}
 
@@ -71,7 +71,7 @@ pub data LowersFlags (home : Homes) :
       → option_or (left_sizes (h ∷ l ∷ [])) (own_size (expr.Bin op.Mul a b here)) ≡ Some z
       → IsLong z → IsPinned home z h hk → IsPinned home z l lk
       → IsArg home z a x p → IsArg home z b y q → NotImm y
-      → wide_code z (unless_later hk lk) lk x y ≡ Some acts → All CanEncode acts
+      → wide_code z hk lk x y ≡ Some acts → All CanEncode acts
       → LowersFlags home (assign (h ∷ l ∷ []) u e None at) (lasting at no_flag acts)
       (wide_shown lk x y p q)
   -- `r = a / b`, `r = a % b`: one of RAX and RDX is r, and the other is written besides

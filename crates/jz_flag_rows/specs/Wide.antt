@@ -37,12 +37,8 @@ abbrev pub is_apart : Option Pinned → Arg → Bool
 is_apart None x = true
 is_apart (Some k) x = not (among (is_var x ++ found_by x) k.variable)
 
--- a result whose variable a later one of the same statement has too is as `_`
-abbrev pub unless_later : Option Pinned → Option Pinned → Option Pinned
-unless_later (Some a) (Some b) = if nat_eq a.variable b.variable then None else Some a
-unless_later a b = a
-
 -- ---- `h, l = a * b`
+-- One variable that is both is asked for RAX and for RDX: it has no place.
 -- The low word's variable is the first operand; or the first operand is no number and the low
 -- word's variable is the second one, and they are swapped; or it stands nowhere in the second
 -- operand, and the first is copied to RAX.

@@ -1,5 +1,5 @@
 -- An intrinsic by its form, and back.
-use Rattle.std.proofs.Common.{◌≡◌, ℕ, ℤ, Bool, true, false, List, [], ◌∷◌, Option, Some, None, refl, sym, ap, ◌∙◌, subst}
+use Rattle.std.proofs.Common.{◌≡◌, ℕ, ℤ, Bool, true, false, List, [], ◌∷◌, Some, None, refl, sym, ap, ◌∙◌, subst}
 use Rattle.std.specs.Prelude.{not}
 use Rattle.jz_words.specs.declared.size.Size.{Size}
 use Rattle.x64_insn.specs.declared.types.Alu.{Alu}
@@ -32,14 +32,14 @@ use Rattle.jz_homes.specs.Operands.{Leaks, silent, IsArg, IsDest}
 use Rattle.jz_row_operations.specs.Codes.{no_flag}
 use Rattle.jz_row_operations.specs.Rows.{IsWide, NotImm, IsSumOp, IsCarryOp, IsShiftOp, IsSign, a_minus, a_not}
 use Rattle.jz_row_operations.specs.Table.{is_imm, times_code, times_by_code}
-use Rattle.jz_row_operations.specs.Lowering.{numbers_from, two_shown, one_shown, HasRow, moves, sums, carries, signs, times, times_by, shifts, shifts_by, extends, lowest}
+use Rattle.jz_row_operations.specs.Lowering.{numbers_from, two_shown, HasRow, moves, sums, carries, signs, times, times_by, shifts, shifts_by, extends, lowest}
 use Rattle.jz_one_row.proofs.Outs.{out_bin, out_cast, out_neg, out_not}
 use Rattle.jz_one_row.proofs.Operands.{ArgLayer, arg_layer}
 use Rattle.jz_flag_rows.specs.Results.{AreFive, AreFour, AreTwo}
-use Rattle.jz_flag_rows.specs.Wide.{unless_later, wide_shown, divide_two_code, divide_two_shown}
+use Rattle.jz_flag_rows.specs.Wide.{divide_two_code}
 use Rattle.jz_flag_rows.specs.Instructions as table
 use Rattle.jz_flag_rows.specs.Instructions.{two_of, carry_of, compare_of, step_of, shift_named, rotation_named, HasInstruction}
-use Rattle.jz_one_flag_row.specs.Forms.{Form, f_two, f_carried, f_one, f_swap, f_address, f_compare, f_shift, f_times, f_wide, f_divide, f_byte, Lead, l_none, l_two, l_four, l_five, form_of, lead_of, AreLed, OneOne, OneTwo, OneThree, NoneTwo, TwoTwo, TwoThree, IsTwo, IsCarried, IsOne, IsSwap, IsLea, IsComparison, IsCounted, IsWideProduct, IsLongDivision, HasForm, IsFormed}
+use Rattle.jz_one_flag_row.specs.Forms.{Form, f_two, f_carried, f_one, f_swap, f_address, f_compare, f_shift, f_times, f_wide, f_divide, Lead, l_none, l_two, l_four, l_five, form_of, lead_of, AreLed, IsOne, IsCounted, HasForm, IsFormed}
 
 -- ---- forms of names
 two_form : (i : Intrinsic) (k : Alu × Bool) → two_of i ≡ Some k → (form_of i ≡ f_two k.0 k.1) × (lead_of i ≡ l_five)
@@ -459,7 +459,7 @@ module _ (home : Homes) (z : Size) where
   divide_back to (d ∷ d2 ∷ []) (a ∷ b ∷ c ∷ c2 ∷ cs) fl acts items led h = absurd h
   divide_back to (d ∷ d2 ∷ []) (a ∷ b ∷ c ∷ []) fl acts items led h =
       subst (λ u. Made name.Div to (a ∷ b ∷ c ∷ []) fl u items) (sym h.code)
-      (subst (λ l. Made name.Div to (a ∷ b ∷ c ∷ []) fl (divide_two_code z (unless_later h.quotient h.remainder) h.remainder h.x h.y h.w) l) (sym h.shown)
+      (subst (λ l. Made name.Div to (a ∷ b ∷ c ∷ []) fl (divide_two_code z h.quotient h.remainder h.x h.y h.w) l) (sym h.shown)
       (table.division h.long led h.first_to h.second_to h.high h.low h.by h.no_number h.high_apart h.quotient_apart h.remainder_apart))
 
   pub form_back : (i : Intrinsic) (to rest : List Lval) (es : List Expr) (fl : Flags) (acts : List Action) (items : List Numbers) → AreLed home (lead_of i) to fl rest → HasForm home z (form_of i) rest es acts items → Made i to es fl acts items

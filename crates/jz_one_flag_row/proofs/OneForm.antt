@@ -1,6 +1,5 @@
 -- An intrinsic of one form has one list of actions.
-use Rattle.std.proofs.Common.{◌≡◌, ℕ, Bool, true, false, List, [], ◌∷◌, ◌++◌, Option, Some, None, refl, sym, ap, ◌∙◌, subst}
-use Rattle.std.specs.Prelude.{not}
+use Rattle.std.proofs.Common.{◌≡◌, ℕ, Bool, List, [], ◌∷◌, ◌++◌, Option, Some, None, refl, sym, ap, ◌∙◌, subst}
 use Rattle.jz_words.specs.declared.size.Size.{Size}
 use Rattle.jz_words.specs.declared.size.Size.TheVariants.{S64}
 use Rattle.jz_tree.specs.declared.intrinsic.Intrinsic.{Intrinsic}
@@ -11,7 +10,6 @@ use Rattle.x64_insn.specs.declared.types.Shift.{Shift}
 use Rattle.jz_tree.specs.declared.expr.BinOp.TheVariants as op
 use Rattle.jz_tree.specs.declared.expr.Expr.{Expr}
 use Rattle.jz_tree.specs.declared.expr.Expr.TheVariants as expr
-use Rattle.jz_tree.specs.declared.expr.Expr.TheOpen.{Expr-F}
 use Rattle.jz_tree.specs.declared.expr.Expr.TheViews.{out-Expr}
 use Rattle.jz_tree.specs.declared.expr.Var.{Var}
 use Rattle.jz_tree.specs.declared.stmt.Lval.{Lval}
@@ -27,14 +25,14 @@ use Rattle.jz_operations.proofs.Somes.{same_some}
 use Rattle.jz_change.specs.declared.change.Numbers.{Numbers}
 use Rattle.jz_change.specs.declared.change.Numbers.TheVariants.{These}
 use Rattle.jz_homes.specs.Homes.{Homes}
-use Rattle.jz_homes.specs.Operands.{Leaks, silent, count_of, IsArg, IsDest}
+use Rattle.jz_homes.specs.Operands.{silent, count_of}
 use Rattle.jz_row_operations.specs.Table.{two_code, one_code}
 use Rattle.jz_row_operations.specs.Lowering.{numbers_from, two_shown, one_shown}
 use Rattle.jz_one_row.proofs.Outs.{out_var}
 use Rattle.jz_one_row.proofs.Operands.{one_arg, one_dest}
 use Rattle.jz_one_row.proofs.Sums.{same_var, one_sum}
 use Rattle.jz_one_row.proofs.Rows.{one_row}
-use Rattle.jz_flag_rows.specs.Wide.{unless_later, wide_code, wide_shown, divide_two_code, divide_two_shown}
+use Rattle.jz_flag_rows.specs.Wide.{wide_code, wide_shown, divide_two_code, divide_two_shown}
 use Rattle.jz_flag_rows.specs.Instructions.{swap_code, count_code, HasInstruction}
 use Rattle.jz_one_flag_row.specs.Forms.{Form, f_two, f_carried, f_one, f_swap, f_address, f_compare, f_shift, f_times, f_wide, f_divide, f_byte, Lead, l_none, l_two, l_four, l_five, form_of, lead_of, AreLed, OneOne, OneTwo, OneThree, NoneTwo, TwoTwo, TwoThree, IsTwo, IsCarried, IsOne, IsSwap, IsLea, IsComparison, IsCounted, IsWideProduct, IsLongDivision, HasForm, IsFormed}
 use Rattle.jz_one_flag_row.proofs.OneParts.{flag_of, pinned_is, one_pinned, one_five, one_four, one_two, one_count, one_lea}
@@ -163,7 +161,7 @@ module _ (home : Homes) (z : Size) (acts us : List Action) (items js : List Numb
       let l = one_pinned home z lo h.lower g.lower h.low g.low in
       let e1 = one_arg home z a h.x g.x h.p g.p h.first g.first in
       let e2 = one_arg home z b h.y g.y h.q g.q h.second g.second in (
-        same_some acts us (sym h.code ∙ (λ i. wide_code z (unless_later (k i) (l i)) (l i) (e1.0 i) (e2.0 i)) ∙ g.code),
+        same_some acts us (sym h.code ∙ (λ i. wide_code z (k i) (l i) (e1.0 i) (e2.0 i)) ∙ g.code),
         h.shown ∙ (λ i. wide_shown (l i) (e1.0 i) (e2.0 i) (e1.1 i) (e2.1 i)) ∙ sym g.shown,
       )
 
@@ -174,7 +172,7 @@ module _ (home : Homes) (z : Size) (acts us : List Action) (items js : List Numb
       let e1 = one_arg home z hi h.x g.x h.p g.p h.high g.high in
       let e2 = one_arg home z lo h.y g.y h.s g.s h.low g.low in
       let e3 = one_arg home z c h.w g.w h.u g.u h.by g.by in (
-        h.code ∙ (λ i. divide_two_code z (unless_later (k i) (l i)) (l i) (e1.0 i) (e2.0 i) (e3.0 i)) ∙ sym g.code,
+        h.code ∙ (λ i. divide_two_code z (k i) (l i) (e1.0 i) (e2.0 i) (e3.0 i)) ∙ sym g.code,
         h.shown ∙ (λ i. divide_two_shown (e1.1 i) (e2.1 i) (e3.1 i)) ∙ sym g.shown,
       )
 

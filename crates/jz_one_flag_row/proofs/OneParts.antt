@@ -1,6 +1,6 @@
 -- A left side is one flag and one word of RAX and RDX, an operand one count and one address, and a
 -- condition one bool variable.
-use Rattle.std.proofs.Common.{◌≡◌, ℕ, Bool, true, false, List, [], ◌∷◌, Option, Some, None, refl, sym, ap, ◌∙◌, subst, ℤ, pos}
+use Rattle.std.proofs.Common.{◌≡◌, ℕ, Bool, false, List, [], ◌∷◌, Option, Some, None, refl, sym, ap, ◌∙◌, subst, ℤ, pos}
 use Rattle.std.specs.Prelude.{not}
 use Rattle.jz_words.specs.declared.size.Size.{Size}
 use Rattle.jz_words.specs.declared.size.Size.TheVariants.{S8, S64}
@@ -19,7 +19,7 @@ use Rattle.jz_operations.specs.declared.operation.Pinned.{Pinned}
 use Rattle.jz_operations.specs.declared.operation.Address.{Address}
 use Rattle.jz_operations.specs.declared.operation.Flags.{Flags}
 use Rattle.jz_homes.specs.Homes.{Home, Homes, in_register, in_flag}
-use Rattle.jz_homes.specs.Sums.{Sum, sum_of, IsAddress, of_base, of_both, of_swapped}
+use Rattle.jz_homes.specs.Sums.{Sum, sum_of, IsAddress, of_base}
 use Rattle.jz_row_operations.specs.Rows.{mask_of}
 use Rattle.jz_one_row.proofs.Outs.{out_bin, out_not, out_num, out_var}
 use Rattle.jz_one_row.proofs.Operands.{register_of}

@@ -1,13 +1,10 @@
 -- A statement of flags, RAX, RDX and RCX has one list of operations, and a test of a flag one
 -- condition.
-use Rattle.std.proofs.Common.{◌≡◌, ℕ, Bool, true, false, List, [], ◌∷◌, ◌++◌, Option, Some, None, refl, sym, ap, ◌∙◌, subst}
+use Rattle.std.proofs.Common.{◌≡◌, List, [], ◌∷◌, ◌++◌, Option, Some, None, refl, sym, ap, ◌∙◌, subst}
 use Rattle.std.specs.Option.{option_or, option_to_list}
 use Rattle.jz_words.specs.declared.size.Size.{Size}
 use Rattle.jz_words.specs.declared.size.Size.TheVariants.{S8}
-use Rattle.x64_insn.specs.declared.types.Cond.{Cond}
-use Rattle.x64_insn.specs.declared.types.Wide.{Wide}
 use Rattle.jz_io.specs.declared.span.Span.{Span}
-use Rattle.jz_tree.specs.Spellings.{spelled}
 use Rattle.jz_tree.specs.declared.intrinsic.Instance.{Instance}
 use Rattle.jz_tree.specs.declared.expr.BinOp.{BinOp}
 use Rattle.jz_tree.specs.declared.expr.BinOp.TheVariants as op
@@ -15,36 +12,30 @@ use Rattle.jz_tree.specs.declared.expr.Expr.{Expr}
 use Rattle.jz_tree.specs.declared.expr.Expr.TheVariants as expr
 use Rattle.jz_tree.specs.declared.expr.Expr.TheOpen.{Expr-F}
 use Rattle.jz_tree.specs.declared.expr.Expr.TheViews.{out-Expr}
-use Rattle.jz_tree.specs.declared.stmt.Lval.{Lval}
 use Rattle.jz_meaning.specs.Assignments.{Layer, left_span, left_sizes, whole_of}
 use Rattle.jz_meaning.specs.Intrinsics.{intrinsic_size}
 use Rattle.jz_meaning.specs.Values.{own_size}
-use Rattle.jz_meaning.specs.Statements as source
 use Rattle.jz_operations.specs.declared.operation.Pinned.{Pinned}
-use Rattle.jz_operations.specs.declared.operation.Arg.{Arg}
 use Rattle.jz_operations.specs.declared.operation.Condition.{Condition}
 use Rattle.jz_operations.specs.declared.operation.Condition.TheVariants as condition
-use Rattle.jz_operations.specs.declared.operation.Action.{Action}
 use Rattle.jz_operations.specs.declared.operation.Action.TheVariants as action
-use Rattle.jz_operations.specs.declared.operation.Flags.{Flags}
 use Rattle.jz_operations.specs.declared.operation.Operation.{Operation}
 use Rattle.jz_operations.proofs.Somes.{same_some}
-use Rattle.jz_placing.specs.Variables.{Asked, asks}
-use Rattle.jz_change.specs.declared.change.Numbers.{Numbers}
+use Rattle.jz_placing.specs.Variables.{asks}
 use Rattle.jz_change.specs.declared.change.Numbers.TheVariants.{These}
 use Rattle.jz_homes.specs.Homes.{Homes}
 use Rattle.jz_homes.specs.Operands.{Leaks, IsArg}
 use Rattle.jz_row_operations.specs.Codes.{no_flag, plain, lasting}
-use Rattle.jz_row_operations.specs.Lowering.{numbers_from, HasRow, IsCompared}
+use Rattle.jz_row_operations.specs.Lowering.{numbers_from, HasRow}
 use Rattle.jz_one_row.proofs.Outs.{out_bin}
 use Rattle.jz_one_row.proofs.Operands.{register_of, size_of_register, one_arg, one_dest}
 use Rattle.jz_one_row.proofs.Rows.{one_row}
-use Rattle.jz_one_row.proofs.Statements.{SameTest, one_compared}
+use Rattle.jz_one_row.proofs.Statements.{one_compared}
 use Rattle.jz_flag_rows.specs.Results.{begins_at, carry_alone, IsPinned}
 use Rattle.jz_flag_rows.specs.Wide.{divider, quotient_code, divide_shown}
-use Rattle.jz_flag_rows.specs.Conditions.{IsFlagCondition, IsCondition, by_comparison, by_flag, condition_items, leaked, LowersFlagTest, asks_flag}
+use Rattle.jz_flag_rows.specs.Conditions.{IsCondition, by_comparison, by_flag, condition_items, leaked, asks_flag}
 use Rattle.jz_flag_rows.specs.Instructions.{HasInstruction}
-use Rattle.jz_flag_rows.specs.Rows.{IsSumLayer, LowersFlags, carry_results, wide_products, quotients, choices, instructions, sets}
+use Rattle.jz_flag_rows.specs.Rows.{IsSumLayer, carry_results, wide_products, quotients, choices, instructions, sets}
 use Rattle.jz_flag_rows.proofs.Apart.{flag_never}
 use Rattle.jz_one_flag_row.specs.Forms.{IsWideProduct}
 use Rattle.jz_one_flag_row.specs.Laws.{OneFlagLowering, OneFlagTest}

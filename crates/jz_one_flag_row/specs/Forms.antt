@@ -35,7 +35,7 @@ use Rattle.jz_row_operations.specs.Rows.{NotImm}
 use Rattle.jz_row_operations.specs.Table.{two_code, one_code}
 use Rattle.jz_row_operations.specs.Lowering.{numbers_from, two_shown, one_shown, HasRow}
 use Rattle.jz_flag_rows.specs.Results.{IsPinned, AreFive, AreFour, AreTwo}
-use Rattle.jz_flag_rows.specs.Wide.{IsLong, is_apart, unless_later, wide_code, wide_shown, divide_two_code, divide_two_shown}
+use Rattle.jz_flag_rows.specs.Wide.{IsLong, is_apart, wide_code, wide_shown, divide_two_code, divide_two_shown}
 use Rattle.jz_flag_rows.specs.Instructions.{NotAccess, swap_code, IsLeaAddress, IsCount, count_code}
 
 -- ---- forms
@@ -229,7 +229,7 @@ pub record IsWideProduct (home : Homes) (z : Size)
   pub first : IsArg home z a x p
   pub second : IsArg home z b y q
   pub no_number : NotImm y
-  pub code : wide_code z (unless_later upper lower) lower x y ≡ Some acts
+  pub code : wide_code z upper lower x y ≡ Some acts
   pub shown : items ≡ wide_shown lower x y p q
 
 pub record IsLongDivision (home : Homes) (z : Size)
@@ -252,7 +252,7 @@ pub record IsLongDivision (home : Homes) (z : Size)
   pub high_apart : is_apart quotient x ≡ true
   pub quotient_apart : is_apart quotient w ≡ true
   pub remainder_apart : is_apart remainder w ≡ true
-  pub code : acts ≡ divide_two_code z (unless_later quotient remainder) remainder x y w
+  pub code : acts ≡ divide_two_code z quotient remainder x y w
   pub shown : items ≡ divide_two_shown p s u
 
 -- a signed product has the row of `d = a * b`
