@@ -1,5 +1,5 @@
 -- The places of machine code are all that the operations of its body need.
-use Rattle.std.proofs.Common.{◌≡◌, ℕ, Bool, false, List, map, refl}
+use Rattle.std.proofs.Common.{ℕ, Bool, false, List, map, refl}
 use Rattle.x64_insn.specs.declared.types.Place.{Place}
 use Rattle.jz_ir.specs.Places.{place_at, IsPlacing}
 use Rattle.jz_ir.specs.Tree as ir
