@@ -4,13 +4,11 @@ use Rattle.std.specs.Prelude.{⊤}
 use Rattle.x64_insn.specs.declared.types.Place.{Place}
 use Rattle.jz_tree.specs.declared.expr.Var.{Var}
 use Rattle.jz_runs.specs.Trees.{choose}
-use Rattle.jz_runs.specs.Rules.{went}
 use Rattle.jz_meaning.specs.declared.access.Kind.{Kind}
 use Rattle.jz_meaning.specs.declared.access.Kind.TheVariants as kind
 use Rattle.jz_meaning.specs.States.{Value, Key, same_key, Store, put, State}
 use Rattle.jz_meaning.specs.Values.{Ref, key_of, cell_key, ref_of}
 use Rattle.jz_meaning.specs.Statements.{Operation, Condition, Counter, Block, unset, assign, instruction, meaningless, no_cells, without, all_unset, quiets, source}
-use Rattle.jz_meaning.specs.Statements as statements
 use Rattle.jz_operations.specs.declared.operation.Operation.{Operation as Made}
 use Rattle.jz_operations.specs.Values as over
 use Rattle.jz_operations.specs.Rows.{Frame}

@@ -63,7 +63,7 @@ use Rattle.jz_lowered.specs.Functions.{AreKinds, ArePassed, none_passed, one_pas
 use Rattle.jz_lowered.specs.Laws.{AreFormed}
 use Rattle.jz_lowered.proofs.SortedBodies.{bodies_sorted}
 use Rattle.jz_lowered.proofs.Within.{IsNamed, ArePinned, none_pinned, IsWithinOne, below_with, alu_within, cmov_within, set_within, arg_named, dest_named, row_within}
-use Rattle.jz_lowered.proofs.FlagWithin.{word_under, later_under, carry_under, condition_under, quotient_within, wide_code_within, instruction_within}
+use Rattle.jz_lowered.proofs.FlagWithin.{word_under, carry_under, condition_under, quotient_within, wide_code_within, instruction_within}
 
 -- ---- operations that can be encoded, whose variables have kinds
 pub record IsCoded (n : ℕ) (o : Operation) : Type 0 where

@@ -36,7 +36,7 @@ use Rattle.jz_operations.specs.declared.operation.Action.TheVariants as action
 use Rattle.jz_operations.specs.declared.operation.Flags.{Flags}
 use Rattle.jz_operations.specs.declared.operation.Operation.{Operation}
 use Rattle.jz_operations.specs.Rows.{Output, low_at, high_at, outputs, changes, flags_of}
-use Rattle.jz_operations.specs.Reading.{written_in, left_in, five_flags, flags_left}
+use Rattle.jz_operations.specs.Reading.{left_in, five_flags, flags_left}
 use Rattle.jz_encodable.specs.Encodable.{CanEncode}
 use Rattle.jz_change.specs.declared.change.Numbers.{Numbers}
 use Rattle.jz_place.specs.Sorts.{IsSorted}

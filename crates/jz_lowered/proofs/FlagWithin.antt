@@ -1,6 +1,6 @@
 -- The variables that operations of the table of flags name have kinds.
-use Rattle.std.proofs.Common.{◌≡◌, ℕ, ◌<◌, Bool, true, false, List, [], ◌∷◌, length, Option, Some, None, refl, sym, ap, ◌∙◌, subst, pos}
-use Rattle.std.specs.Prelude.{nat_eq, not, if◌then◌else◌, All}
+use Rattle.std.proofs.Common.{◌≡◌, ℕ, ◌<◌, Bool, true, false, List, [], length, Option, Some, None, refl, subst, pos}
+use Rattle.std.specs.Prelude.{not, if◌then◌else◌, All}
 use Rattle.std.proofs.lemmas.List.Elements.{All-nil, All-cons, All-head}
 use Rattle.jz_words.specs.declared.size.Size.{Size}
 use Rattle.jz_words.specs.declared.size.Size.TheVariants.{S8}
@@ -22,7 +22,6 @@ use Rattle.jz_operations.specs.declared.operation.Arg.{Arg}
 use Rattle.jz_operations.specs.declared.operation.Arg.TheVariants as arg
 use Rattle.jz_operations.specs.declared.operation.Action.{Action}
 use Rattle.jz_operations.specs.declared.operation.Action.TheVariants as action
-use Rattle.jz_operations.specs.declared.operation.Condition.{Condition}
 use Rattle.jz_operations.specs.declared.operation.Condition.TheVariants as condition
 use Rattle.jz_operations.specs.declared.operation.Flags.{Flags}
 use Rattle.jz_operations.specs.Rows.{low_at, high_at, flags_of}
@@ -30,7 +29,7 @@ use Rattle.jz_operations.specs.Reading.{address_vars, flag_read}
 use Rattle.jz_change.specs.declared.change.Numbers.{Numbers}
 use Rattle.jz_homes.specs.Homes.{Homes}
 use Rattle.jz_homes.specs.Sums.{Sum}
-use Rattle.jz_row_operations.specs.Table.{is_imm, nothing, one_code, two_code}
+use Rattle.jz_row_operations.specs.Table.{is_imm, nothing, one_code}
 use Rattle.jz_flag_rows.specs.Results as results
 use Rattle.jz_flag_rows.specs.Results.{IsFlag, AreFive, AreFour, AreTwo, carry_alone}
 use Rattle.jz_flag_rows.specs.Wide.{is_quotient, wide_code, quotient_code}

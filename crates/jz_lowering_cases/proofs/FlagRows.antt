@@ -19,8 +19,7 @@ use Rattle.jz_tree.specs.declared.stmt.Lval.{Lval}
 use Rattle.jz_tree.specs.declared.stmt.Lval.TheVariants as lval
 use Rattle.jz_tree.specs.declared.expr.Var.{Var}
 use Rattle.jz_type_names.specs.Parts.{cells_in}
-use Rattle.jz_meaning.specs.Assignments.{left_span, whole_of}
-use Rattle.jz_meaning.specs.Statements.{Condition}
+use Rattle.jz_meaning.specs.Assignments.{whole_of}
 use Rattle.jz_meaning.specs.Statements as statements
 use Rattle.jz_operations.specs.declared.operation.Arg.{Arg}
 use Rattle.jz_operations.specs.declared.operation.Arg.TheVariants as arg
@@ -46,11 +45,11 @@ use Rattle.jz_flag_rows.specs.Instructions.{count_code, HasInstruction, two_oper
 use Rattle.jz_flag_rows.specs.Rows.{LowersFlags, carry_results, wide_products, quotients, choices, instructions, sets}
 use Rattle.jz_flag_rows.proofs.Codes.{one_all, brought_all, count_all, wide_all, divide_all, divide_two_all}
 use Rattle.jz_compiled.specs.Layout.{Name, Place}
-use Rattle.jz_item_names.specs.Names.{keys_in, left_keys, operation_keys, IsLeaked, AreLeaked}
+use Rattle.jz_item_names.specs.Names.{keys_in, left_keys, operation_keys, IsLeaked}
 use Rattle.jz_item_names.proofs.Keys.{parts}
 use Rattle.jz_lowering_cases.specs.Staying.{ArePlaced, IsInside, IsSmall, left_cells, assigned_cells, instructed_cells, OperationInside}
 use Rattle.jz_lowering_cases.proofs.Parts.{IsOf, IsLeftOf, whole_is_of}
-use Rattle.jz_lowering_cases.proofs.Rows.{AllLeaked, from_leaked, joined_leaked, two_leaked, one_leaked, row_leaked, condition_leaked, Arg', Of, LeftOf, ActionStays, AllStay, OpsStay, arg_in, dest_in, bin_of, row_stays, compared_stays, lasting_stay, right_is, left_is}
+use Rattle.jz_lowering_cases.proofs.Rows.{AllLeaked, from_leaked, joined_leaked, two_leaked, one_leaked, row_leaked, condition_leaked, Arg', ActionStays, AllStay, OpsStay, arg_in, dest_in, bin_of, row_stays, compared_stays, lasting_stay, right_is}
 
 -- ---- numbers
 three_leaked : (i : ℕ) → All IsLeaked (three_from i)
