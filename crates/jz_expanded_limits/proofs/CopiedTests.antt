@@ -199,8 +199,7 @@ module _ (names : InlineNames) (i : Inlines) (m : Names) (c0 : ℕ) (copy : IsCo
         let fst = fq k0 kq done q2 dq (knows_less names i m e k k0 less h) q in
         let snd = fb kq kb done b2 db fst.0.knows b in
         let ends : Ends names i m c0 inside k k3 = ends_from names i m c0 inside k k0 k3 less (ends_less names i m c0 inside k0 kq k3 l3 fst.0) in
-        let more = rest k3 w dr (subst (λ v. Ends names i m c0 v k k3) (sym known) ends) x in
-        (
+        let more = rest k3 w dr (subst (λ v. Ends names i m c0 v k k3) (sym known) ends) x in (
           more.0,
           λ g. (within, fst.1 tt, snd.1 tt, more.1 g),
           both_most (statements_in q2) (statements_in b2) (statements_in w) whole_bound (cost Q.steps) (cost (B inside).steps) n (statements_in R) (loop_cost Q.steps tested_steps (cost (B inside).steps) few) fst.2 snd.2 more.2,

@@ -16,7 +16,7 @@ use Rattle.jz_pass.specs.Operations.{in_turn}
 use Rattle.jz_pass.specs.Unrolling.{Unrolls, u_op, u_quiet}
 use Rattle.jz_inline.specs.Names.{Names, var_in}
 use Rattle.jz_inline.specs.Calls.{call_place, result_ops, names_of_callee, inline_calls}
-use Rattle.jz_limits.specs.Limits.{Step, one}
+use Rattle.jz_limits.specs.Limits.{one}
 use Rattle.jz_limits.specs.Values.{no_numbers, number_in, known_after}
 use Rattle.jz_limits.specs.Asked.{asked, widths}
 use Rattle.jz_limits.specs.Walks.{limits, silent, arms, rounds, counted_values, loop_walk, more_than_eight, argument_limits, with_arguments, result_limits, walk}

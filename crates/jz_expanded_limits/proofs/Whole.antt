@@ -1,5 +1,5 @@
 -- Limits through the three passes of an expansion.
-use Rattle.std.proofs.Common.{ℕ, suc, ◌+◌, ◌*◌, ◌≤◌, List, [], ◌∷◌, length, true, refl, sym, ap, ◌∙◌, subst, arith, inl}
+use Rattle.std.proofs.Common.{ℕ, suc, ◌+◌, ◌*◌, ◌≤◌, List, [], ◌∷◌, length, true, refl, sym, ap, subst, arith, inl}
 use Rattle.std.specs.Prelude.{◌≡◌, ⊤, Contains}
 use Rattle.std.proofs.lemmas.List.Elements.{All-contains}
 use Rattle.jz_tree.specs.declared.program.Fun.{Fun}
