@@ -4,6 +4,7 @@ use Rattle.std.specs.Prelude.{All, Contains, ⊤, not, ◌&&◌, if◌then◌els
 use Rattle.std.specs.Option.{option_to_list}
 use Rattle.std.proofs.lemmas.List.Elements.{All-nil, All-cons, All-head, All-tail, All-contains_itself}
 use Rattle.jz_words.specs.declared.size.Size.{Size}
+use Rattle.jz_words.specs.declared.size.Size.TheVariants.{S8}
 use Rattle.x64_insn.specs.declared.types.One.{One}
 use Rattle.x64_insn.specs.declared.types.One.TheVariants as one
 use Rattle.x64_insn.specs.declared.types.Shift.{Shift}
@@ -246,7 +247,7 @@ module _ (home : Homes) (places : List Place) (slots : ℕ → ℕ) (size : ℕ)
     operands_are : AllArgs (Contains b) (IsInside home) args
     operands_are = args_are (Contains b) (IsInside home) args named.1 held.1
 
-  set_stays : (called : List Name) {at : Span} {e : Expr} {compare : Option Operation} {c : Choice} {ps : List (Leaks × Leaks)} (v : Arg) → IsOf (Contains called) (IsInside home) e → Arg' home places slots size placed small called _ v → IsCondition home at e compare c ps
+  set_stays : (called : List Name) {at : Span} {e : Expr} {compare : Option Operation} {c : Choice} {ps : List (Leaks × Leaks)} (v : Arg) → IsOf (Contains called) (IsInside home) e → Arg' home places slots size placed small called S8 v → IsCondition home at e compare c ps
       → OpsStay home places slots size placed small called (option_to_list compare ++ (plain at (action.Set c v) ∷ []))
   set_stays called v h d (by_comparison k) = (compared_stays home places slots size placed small called h k, ((d, tt), tt))
   set_stays called v h d (by_flag k) = ((d, tt), tt)
