@@ -1,30 +1,32 @@
 -- The operations of statements do what the statements do, by both tables.
 use Rattle.std.proofs.Common.{◌≡◌, ℕ, zero, suc, Bool, true, false, List, [], ◌∷◌, Option, Some, None, refl, sym, subst, inr}
 use Rattle.std.specs.Prelude.{⊤}
+use Rattle.x64_insn.specs.declared.types.Place.{Place}
 use Rattle.jz_tree.specs.declared.expr.Var.{Var}
-use Rattle.jz_runs.specs.Rules.{went}
+use Rattle.jz_runs.specs.Trees.{choose}
 use Rattle.jz_meaning.specs.declared.access.Kind.{Kind}
 use Rattle.jz_meaning.specs.declared.access.Kind.TheVariants as kind
 use Rattle.jz_meaning.specs.States.{Value, Key, same_key, Store, put, State}
 use Rattle.jz_meaning.specs.Values.{Ref, key_of, cell_key, ref_of}
-use Rattle.jz_meaning.specs.Statements.{Operation, Condition, unset, assign, instruction, meaningless, no_cells, without, all_unset, quiets, source}
-use Rattle.jz_meaning.specs.Statements as statements
+use Rattle.jz_meaning.specs.Statements.{Operation, Condition, Counter, Block, unset, assign, instruction, meaningless, no_cells, without, all_unset, quiets, source}
 use Rattle.jz_operations.specs.declared.operation.Operation.{Operation as Made}
 use Rattle.jz_operations.specs.Values as over
 use Rattle.jz_operations.specs.Rows.{Frame}
-use Rattle.jz_placing.specs.Variables.{Asked, variables}
+use Rattle.jz_placing.specs.Variables.{Asked, Body, variables}
 use Rattle.jz_change.specs.declared.change.Numbers.{Numbers}
-use Rattle.jz_pass.specs.Operations.{DoAll, do_none}
-use Rattle.jz_pass.specs.Unrolling.{IsKnown}
+use Rattle.jz_change.specs.Changes.{Change}
+use Rattle.jz_pass.specs.Operations.{in_turn, DoAll, do_none}
+use Rattle.jz_pass.specs.Unrolling.{Knowing, Unrolls, u_done, u_op, u_quiet, u_if, u_arm, u_while, u_once, u_for, IsKnown}
 use Rattle.jz_pass.specs.Cases.{AsMany, none_each, HasItems}
 use Rattle.jz_homes.specs.Homes.{Homes, IsHoming, IsRelated}
 use Rattle.jz_row_operations.specs.Lowering.{tests_each}
 use Rattle.jz_row_operations.specs.Keeping.{DoesAs, AnswersAs}
 use Rattle.jz_row_operations.proofs.HasItems.{lowers_many}
 use Rattle.jz_row_operations.proofs.Known.{op_goes, loop_test_goes}
+use Rattle.jz_flag_runs.specs.Laws.{AreNeedsMet}
 use Rattle.jz_flag_runs.proofs.Whole.{flags_go, flag_tests_go, flags_many}
 use Rattle.jz_every_row.specs.Statements.{Makes, by_row, by_flags, MakesTest, by_comparison, by_flag, MakesLoopTest, by_loop_test, by_loop_flag}
-use Rattle.jz_every_row.specs.Bodies.{lowering}
+use Rattle.jz_every_row.specs.Bodies.{lowering, without_marks, HasNeedsMet}
 
 -- ---- marks: what is unset may still be there
 put_less : (b : Bool) (store : Store) (key k : Key) (v : Value) → same_key key k ≡ b → put store key None k ≡ Some v → store k ≡ Some v
@@ -53,9 +55,9 @@ marks_keep home (instruction to n args at) s σ h = h
 marks_keep home (meaningless at) s σ h = h
 
 -- ---- statements and tests
-pub does_as : (home : Homes) (o : Operation) (os : List Made) (items : List Numbers) → Makes home o os items → DoesAs home o os items
-does_as home o os items (by_row l) frame s t σ ns homing h run = op_goes frame home homing o os items s t σ ns l h run
-does_as home o os items (by_flags l) frame s t σ ns homing h run = flags_go home o os items l frame s t σ ns homing h run
+pub does_as : (places : ℕ → Place) (home : Homes) (o : Operation) (os : List Made) (items : List Numbers) → AreNeedsMet places os → Makes home o os items → DoesAs home o os items
+does_as places home o os items met (by_row l) frame s t σ ns homing h run = op_goes frame home homing o os items s t σ ns l h run
+does_as places home o os items met (by_flags l) frame s t σ ns homing h run = flags_go places home o os items met l frame s t σ ns homing h run
 
 pub answers_as : (home : Homes) (c : Condition) (a : Asked) (i : Numbers) → MakesTest home c a i → AnswersAs home c a i
 answers_as home c a i (by_comparison l) frame s σ ns z homing h run = loop_test_goes frame home homing c a i s σ ns z (tests_each l) h run
@@ -65,18 +67,48 @@ pub loop_answers_as : (home : Homes) (c : Condition) (a : Asked) (i : Numbers) �
 loop_answers_as home c a i (by_loop_test l) frame s σ ns z homing h run = loop_test_goes frame home homing c a i s σ ns z l h run
 loop_answers_as home c a i (by_loop_flag l) frame s σ ns z homing h run = flag_tests_go home c a i l frame s σ ns z homing h run
 
-module _ (frame : Frame) (home : Homes) (homing : IsHoming frame home) where
+-- with places for all that the operations need
+abbrev pub placed : (ℕ → Place) → Homes → Knowing Operation Condition Counter ⊤ Made Asked
+placed places home = record {
+  Op = λ o k os items k1. Makes home o os items × AreNeedsMet places os;
+  Quiet = λ o k o2 k1. ⊤;
+  Test = λ t k os items asked i. (os ≡ []) × (items ≡ []) × MakesTest home t asked i;
+  LoopTest = λ t k os items asked i. (os ≡ []) × (items ≡ []) × MakesLoopTest home t asked i;
+  Constant = λ t k answer. ⊥;
+  Values = λ f k is. ⊥;
+  Less = λ k0 k. ⊤;
+  set = λ f i k. k;
+  restore = λ f k k1. k;
+}
+
+turn_met : (places : ℕ → Place) (os : List Made) (u : Body) → HasNeedsMet places (without_marks (in_turn os u)) → AreNeedsMet places os × HasNeedsMet places (without_marks u)
+turn_met places [] u m = (tt, m)
+turn_met places (o ∷ os) u m = let k = turn_met places os u m.1 in ((m.0, k.0), k.1)
+
+pub unrolls_met : (places : ℕ → Place) (home : Homes) {e e1 : ⊤} {b : Block} {rest u : Body} {k : Change} → Unrolls (lowering home) b e rest u e1 k → HasNeedsMet places (without_marks u) → Unrolls (placed places home) b e rest u e1 k
+unrolls_met places home u_done m = u_done
+unrolls_met places home (u_op {u = u} {os = os} l r) m = let k = turn_met places os u m in u_op (l, k.0) (unrolls_met places home r k.1)
+unrolls_met places home (u_quiet l r) m = u_quiet l (unrolls_met places home r m)
+unrolls_met places home (u_if {u = u} {a2 = a2} {b2 = b2} {os = os} {p2 = p2} l x y ea eb r) m =
+    let k = turn_met places os (choose p2 a2 b2 u) m in
+    u_if l (unrolls_met places home x k.1.0) (unrolls_met places home y k.1.1) ea eb (unrolls_met places home r k.1.2)
+unrolls_met places home (u_arm c x r) m = absurd c
+unrolls_met places home (u_while e0 l q b eb e3 r) m = u_while e0 l (unrolls_met places home q m.0) (unrolls_met places home b m.1) eb e3 (unrolls_met places home r m.2)
+unrolls_met places home (u_once q c r) m = absurd c
+unrolls_met places home (u_for v e r) m = absurd v
+
+module _ (places : ℕ → Place) (frame : Frame) (home : Homes) (homing : IsHoming frame home) where
   pub no_operations : (ns : List ℕ) (os : List Made) (items : List Numbers) (σ : over.State) → os ≡ [] → items ≡ [] → DoAll (variables frame) ns os items σ σ
   no_operations ns os items σ e f = subst (λ x. DoAll (variables frame) ns x items σ σ) (sym e) (subst (λ y. DoAll (variables frame) ns [] y σ σ) (sym f) do_none)
 
-  abbrev pub lowering_known : IsKnown source (variables frame) (lowering home)
+  abbrev pub lowering_known : IsKnown source (variables frame) (placed places home)
   lowering_known = record {
     Relates = λ k s σ. IsRelated home s σ;
     Fails = λ w w2. ⊤;
     Exact = ⊥;
     settles = λ w w2. inr tt;
     less_so = λ k0 k s σ l h. h;
-    op_went = λ o k k1 os items s t σ ns l h run. does_as home o os items l frame s t σ ns homing h run;
+    op_went = λ o k k1 os items s t σ ns l h run. does_as places home o os items l.1 l.0 frame s t σ ns homing h run;
     op_stuck = λ o k k1 os items s σ w x l h run. absurd x;
     quiet_so = λ o k k1 o2 s σ l h. marks_keep home o s σ h;
     test_went = λ c k os items a i s σ ns z l h run. let g = answers_as home c a i l.2 frame s σ ns z homing h run in (σ, no_operations ns os items σ l.0 l.1, g.has, g.answers, g.agrees);

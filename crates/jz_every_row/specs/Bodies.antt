@@ -1,5 +1,6 @@
 -- The body over variables of a function's body.
-use Rattle.std.specs.Prelude.{◌≡◌, [], ⊤}
+use Rattle.std.specs.Prelude.{◌≡◌, ℕ, [], ⊤}
+use Rattle.x64_insn.specs.declared.types.Place.{Place}
 use Rattle.jz_runs.specs.Trees.{Tree, done, op, quiet, choose, loop, each, call}
 use Rattle.jz_runs.specs.Rules.{Goes}
 use Rattle.jz_meaning.specs.States as source
@@ -9,6 +10,8 @@ use Rattle.jz_meaning.specs.declared.value.Stuck.{Stuck}
 use Rattle.jz_operations.specs.declared.operation.Operation.{Operation as Made}
 use Rattle.jz_operations.specs.Values.{State}
 use Rattle.jz_operations.specs.Rows.{Frame}
+use Rattle.jz_operations.specs.Reading.{needs_of}
+use Rattle.jz_operations.specs.Standing.{NeedsMet}
 use Rattle.jz_placing.specs.Variables.{Asked, Body, variables}
 use Rattle.jz_change.specs.Changes.{Change}
 use Rattle.jz_pass.specs.Unrolling.{Knowing, Unrolls}
@@ -58,11 +61,23 @@ beside home = record {
   Exact = ⊥;
 }
 
--- for each number of turns
+-- these places are all that each operation of a statement needs
+abbrev pub HasNeedsMet : (ℕ → Place) → Body → Type 0
+HasNeedsMet places done = ⊤
+HasNeedsMet places (op o r) = NeedsMet places (needs_of o) × HasNeedsMet places r
+HasNeedsMet places (quiet o r) = HasNeedsMet places r
+HasNeedsMet places (choose c a b r) =
+    HasNeedsMet places a × HasNeedsMet places b × HasNeedsMet places r
+HasNeedsMet places (loop q p c b r) =
+    HasNeedsMet places p × HasNeedsMet places b × HasNeedsMet places r
+HasNeedsMet places (each f b r) = absurd f
+HasNeedsMet places (call c b r) = absurd c
+
+-- for each number of turns, where some places meet all needs
 abbrev pub BodiesCarry : Type 0
 BodiesCarry =
-    (frame : Frame) (home : Homes) (b : Block) (u : Body) (k : Change)
-    → IsHoming frame home → IsLowered home b u k
+    (places : ℕ → Place) (frame : Frame) (home : Homes) (b : Block) (u : Body) (k : Change)
+    → IsHoming frame home → IsLowered home b u k → HasNeedsMet places u
     → Carries (beside home) (λ s n. Goes statements.source b n s)
     (λ σ n. Goes (variables frame) u n σ) k
 

@@ -3,6 +3,7 @@ use Rattle.std.proofs.Common.{◌≡◌, ℕ, ◌+◌, Bool, true, false, List, 
 use Rattle.std.specs.Option.{option_or}
 use Rattle.jz_io.specs.declared.span.Span.{Span}
 use Rattle.jz_words.specs.declared.size.Size.{Size}
+use Rattle.x64_insn.specs.declared.types.Place.{Place}
 use Rattle.x64_insn.specs.declared.types.Wide.{Wide}
 use Rattle.x64_insn.specs.declared.types.Wide.TheVariants as wide
 use Rattle.jz_tree.specs.declared.expr.BinOp.{BinOp}
@@ -33,8 +34,9 @@ use Rattle.jz_row_operations.proofs.Sums.{no_name}
 use Rattle.jz_row_operations.proofs.Lowered.{right_not_imm, Goes}
 use Rattle.jz_flag_rows.specs.Results.{IsPinned}
 use Rattle.jz_flag_rows.specs.Results as results
-use Rattle.jz_flag_rows.specs.Wide.{IsLong, is_apart, unless_later, divider, quotient_code, three_from, divide_shown, divide_two_code, divide_two_shown}
-use Rattle.jz_flag_runs.proofs.FlagLefts.{free_of, later_apart, later_far}
+use Rattle.jz_flag_rows.specs.Wide.{IsLong, is_apart, divider, quotient_code, three_from, divide_shown, divide_two_code, divide_two_shown}
+use Rattle.jz_flag_runs.specs.Laws.{AreNeedsMet}
+use Rattle.jz_flag_runs.proofs.FlagLefts.{free_of, wide_apart}
 use Rattle.jz_flag_runs.proofs.Intrinsics.{FiveTo}
 use Rattle.jz_flag_runs.proofs.Quotients.{DivisionRuns, division_runs, unsigned_divided}
 use Rattle.jz_flag_runs.proofs.SignedQuotients.{signed_divided}
@@ -107,11 +109,11 @@ module _ (frame : Frame) (home : Homes) (homing : IsHoming frame home) (s : Stat
   quotient_goes _ there here at t ns e size long ir ia ib ni free run = absurd cc
 
   -- ---- DIV
-  pub long_goes : (fl : Flags) {ls : List Lval} {z : Size} {dq dr : Lval} {a b c : Expr} {w x y : Arg} {p q v : Leaks} (l h : Option Pinned) (sp at : Span) (t : State) (ns : List ℕ) → FiveTo home ls fl → IsPinned home z dq l → IsPinned home z dr h
+  pub long_goes : (places : ℕ → Place) (fl : Flags) {ls : List Lval} {z : Size} {dq dr : Lval} {a b c : Expr} {w x y : Arg} {p q v : Leaks} (l h : Option Pinned) (sp at : Span) (t : State) (ns : List ℕ) → AreNeedsMet places (lasting sp fl (divide_two_code z l h w x y)) → FiveTo home ls fl → IsPinned home z dq l → IsPinned home z dr h
       → IsArg home z a w p → IsArg home z b x q → IsArg home z c y v → is_apart l w ≡ true → is_apart l y ≡ true → is_apart h y ≡ true
       → and_then (of_division at z (a ∷ b ∷ c ∷ []) s) (λ vs. all_written at (Some z) (ls ++ (dq ∷ dr ∷ [])) vs s) ≡ went ns t
-      → Goes frame home homing s σ related (lasting sp fl (divide_two_code z (unless_later l h) h w x y)) (divide_two_shown p q v) t ns
-  long_goes fl {w = w} {y = y} {p = p} {q = q} {v = v} l h sp at t ns five wq wr ia ib ic lw ly hy run =
-      let j = unless_later l h in
-      let k = long_division_runs frame home homing s σ related fl j h sp at t ns five (l, wq, refl) wr (later_apart l h) ia ib ic (no_name ia) (no_name ic) (free_of j w (later_far l h w lw)) (free_of j y (later_far l h y ly)) (free_of h y hy) run in
+      → Goes frame home homing s σ related (lasting sp fl (divide_two_code z l h w x y)) (divide_two_shown p q v) t ns
+  long_goes places fl {z = z} {w = w} {y = y} {p = p} {q = q} {v = v} l h sp at t ns met five wq wr ia ib ic lw ly hy run =
+      let apart = wide_apart places sp fl wide.Div z l h y met.1.1.0 in
+      let k = long_division_runs frame home homing s σ related fl l h sp at t ns five wq wr apart ia ib ic (no_name ia) (no_name ic) (free_of l w lw) (free_of l y ly) (free_of h y hy) run in
       record { shown' = _; goes = k.goes; are = at_numbers k.numbers (long_items p q v k.first k.second k.third k.hi k.lo k.d k.counted_high k.counted_low k.counted_by) }

@@ -1,22 +1,30 @@
 -- Left sides that take flags, and words in RAX and RDX.
-use Rattle.std.proofs.Common.{◌≡◌, ℕ, Bool, true, false, List, [], ◌∷◌, ◌++◌, Option, Some, None, refl, sym, ap, ◌∙◌, subst, if◌then◌else◌}
-use Rattle.std.specs.Prelude.{nat_eq, IsFalse}
-use Rattle.std.proofs.lemmas.Bool.{true≢false, eqb-true, eq-eqb}
+use Rattle.std.proofs.Common.{◌≡◌, ℕ, Bool, true, List, [], ◌∷◌, ◌++◌, Option, Some, None, sym, ap, ◌∙◌}
+use Rattle.std.specs.Prelude.{IsFalse}
+use Rattle.jz_io.specs.declared.span.Span.{Span}
 use Rattle.jz_words.specs.declared.size.Size.{Size}
 use Rattle.x64_insn.specs.declared.types.FlagVal.{FlagVal}
+use Rattle.x64_insn.specs.declared.types.Place.{Place}
+use Rattle.x64_insn.specs.declared.types.Place.TheVariants as place
+use Rattle.x64_insn.specs.declared.types.Reg.TheVariants as reg
+use Rattle.x64_insn.specs.declared.types.Wide.{Wide}
 use Rattle.jz_tree.specs.declared.stmt.Lval.{Lval}
+use Rattle.jz_ir.specs.declared.code.Need.{Need}
 use Rattle.jz_ir.specs.Paths.{among}
 use Rattle.jz_meaning.specs.States.{Value}
 use Rattle.jz_meaning.specs.Intrinsics.{flag_result}
 use Rattle.jz_operations.specs.declared.operation.Pinned.{Pinned}
 use Rattle.jz_operations.specs.declared.operation.Arg.{Arg}
-use Rattle.jz_operations.specs.Reading.{is_var, found_by}
+use Rattle.jz_operations.specs.declared.operation.Action.TheVariants as action
+use Rattle.jz_operations.specs.declared.operation.Flags.{Flags}
+use Rattle.jz_operations.specs.Rows.{inputs, outputs, changes, flags_of}
+use Rattle.jz_operations.specs.Reading.{is_var, found_by, five_flags, need_at, input_needs, output_needs, asked_needs, flag_needs, needs_of}
+use Rattle.jz_operations.specs.Standing.{NeedsMet}
 use Rattle.jz_operations.specs.Values as over
 use Rattle.jz_homes.specs.Homes.{Homes}
-use Rattle.jz_flag_rows.specs.Results.{IsFlag, IsPinned}
-use Rattle.jz_row_operations.proofs.Brought.{twice}
+use Rattle.jz_flag_rows.specs.Results.{IsFlag}
 use Rattle.jz_row_operations.proofs.SameArgs.{not_true}
-use Rattle.jz_flag_rows.specs.Wide.{is_apart, unless_later}
+use Rattle.jz_flag_rows.specs.Wide.{is_apart}
 
 -- the left sides that take flags, the variables of the five flags, which of them are written, with what, and the results of the source
 pub data AreFlags (home : Homes) : List Lval → List (Option Pinned) → List Bool → List FlagVal → List (Option Value) → Type 0 where
@@ -44,39 +52,28 @@ pub free_of : (p : Option Pinned) (y : Arg) → is_apart p y ≡ true → IsFree
 free_of None y e = tt
 free_of (Some p) y e = not_true _ e
 
--- ---- a first word whose variable the second one has too is as `_`
-pub later_apart : (p q : Option Pinned) → AreApart (unless_later p q) q
-later_apart None q = tt
-later_apart (Some p) None = tt
-later_apart (Some p) (Some q) = by_test (nat_eq p.variable q.variable) refl
-  where
-    by_test : (b : Bool) → nat_eq p.variable q.variable ≡ b → AreApart (if b then None else Some p) (Some q)
-    by_test true e = tt
-    by_test false e = λ s. true≢false (sym (eq-eqb p.variable q.variable s) ∙ e)
+-- ---- one variable is in no two registers
+needs_front : (places : ℕ → Place) (ks ls : List Need) → NeedsMet places (ks ++ ls) → NeedsMet places ks
+needs_front places [] ls h = tt
+needs_front places (k ∷ ks) ls h = (h.0, needs_front places ks ls h.1)
 
-pub later_far : (p q : Option Pinned) (x : Arg) → is_apart p x ≡ true → is_apart (unless_later p q) x ≡ true
-later_far None q x h = h
-later_far (Some p) None x h = h
-later_far (Some p) (Some q) x h = by_test (nat_eq p.variable q.variable)
-  where
-    by_test : (b : Bool) → is_apart (if b then None else Some p) x ≡ true
-    by_test true = refl
-    by_test false = h
+needs_back : (places : ℕ → Place) (ks ls : List Need) → NeedsMet places (ks ++ ls) → NeedsMet places ls
+needs_back places [] ls h = h
+needs_back places (k ∷ ks) ls h = needs_back places ks ls h.1
 
-pub later_same : (p q : Option Pinned) (z : Size) (m n : ℕ) (vars : ℕ → Option over.Value) → set_pinned q z n (set_pinned p z m vars) ≡ set_pinned q z n (set_pinned (unless_later p q) z m vars)
-later_same None q z m n vars = refl
-later_same (Some p) None z m n vars = refl
-later_same (Some p) (Some q) z m n vars = by_test (nat_eq p.variable q.variable) refl
-  where
-    by_test : (b : Bool) → nat_eq p.variable q.variable ≡ b → set_pinned (Some q) z n (set_pinned (Some p) z m vars) ≡ set_pinned (Some q) z n (set_pinned (if b then None else Some p) z m vars)
-    by_test true e =
-        ap (λ v. over.set_var q.variable (Some (over.word z n)) (over.set_var v (Some (over.word z m)) vars)) (eqb-true p.variable q.variable e)
-        ∙ twice q.variable (Some (over.word z n)) (Some (over.word z m)) vars
-    by_test false e = refl
+met_apart : (places : ℕ → Place) (p q : Option Pinned) → NeedsMet places (need_at (place.Reg reg.Rax) p ++ (need_at (place.Reg reg.Rdx) q ++ [])) → AreApart p q
+met_apart places None None h = tt
+met_apart places None (Some q) h = tt
+met_apart places (Some p) None h = tt
+met_apart places (Some p) (Some q) h = λ e. let both : place.Reg reg.Rax ≡ place.Reg reg.Rdx = sym h.0 ∙ ap places e ∙ h.1.0 in cc
 
--- the first left side, where q is the second one's
-abbrev pub IsFirst : Homes → Size → Lval → Option Pinned → Option Pinned → Type 0
-IsFirst home z d p q = (k : Option Pinned) × IsPinned home z d k × (unless_later k q ≡ p)
+pub wide_apart : (places : ℕ → Place) (at : Span) (fl : Flags) (op : Wide) (z : Size) (l h : Option Pinned) (y : Arg) → NeedsMet places (needs_of (record { span = at; action = action.Wide op z l h y; flags = fl })) → AreApart l h
+wide_apart places at fl op z l h y m =
+    let act = action.Wide op z l h y in
+    met_apart places l h (needs_front places (output_needs (outputs act)) (asked_needs act ++ flag_needs (flags_of fl) (changes act) five_flags) (needs_back places (input_needs (inputs act)) (output_needs (outputs act) ++ (asked_needs act ++ flag_needs (flags_of fl) (changes act) five_flags)) m))
 
-pub first_apart : (home : Homes) (z : Size) (d : Lval) (p q : Option Pinned) → IsFirst home z d p q → AreApart p q
-first_apart home z d p q (k, w, e) = subst (λ j. AreApart j q) e (later_apart k q)
+pub turned_apart : (p q : Option Pinned) → AreApart p q → AreApart q p
+turned_apart None None h = tt
+turned_apart None (Some q) h = tt
+turned_apart (Some p) None h = tt
+turned_apart (Some p) (Some q) h = λ e. h (sym e)

@@ -32,7 +32,7 @@ use Rattle.jz_homes.specs.Homes.{Homes, IsHoming, IsRelated}
 use Rattle.jz_homes.specs.Operands.{Leaks, IsCounted, IsArg, shown_of}
 use Rattle.jz_row_operations.specs.Codes.{plain}
 use Rattle.jz_flag_rows.specs.Results.{IsPinned}
-use Rattle.jz_flag_runs.proofs.FlagLefts.{AreApart, set_pinned, IsFreeOf, IsFirst}
+use Rattle.jz_flag_runs.proofs.FlagLefts.{AreApart, set_pinned, IsFreeOf}
 use Rattle.jz_homes.proofs.Parts.{both_went, went_same}
 use Rattle.jz_row_operations.proofs.Moves.{append_nil}
 use Rattle.jz_row_operations.proofs.Sums.{NoName, left_same, away, RunsAs}
@@ -94,7 +94,7 @@ module _ (frame : Frame) (home : Homes) (homing : IsHoming frame home) (s : Stat
   four_lists : (a b c e f ns : List ℕ) → ns ≡ (a ++ (b ++ (c ++ e))) ++ f → f ≡ [] → ns ≡ a ++ (b ++ (c ++ e))
   four_lists a b c e f ns g h = g ∙ ap (λ y. (a ++ (b ++ (c ++ e))) ++ y) h ∙ append_nil (a ++ (b ++ (c ++ e)))
 
-  pub long_division_runs : (fl : Flags) {ls : List Lval} {z : Size} {dq dr : Lval} {a b c : Expr} {w x y : Arg} {p q v : Leaks} (l h : Option Pinned) (sp at : Span) (t : State) (ns : List ℕ) → FiveTo home ls fl → IsFirst home z dq l h → IsPinned home z dr h → AreApart l h
+  pub long_division_runs : (fl : Flags) {ls : List Lval} {z : Size} {dq dr : Lval} {a b c : Expr} {w x y : Arg} {p q v : Leaks} (l h : Option Pinned) (sp at : Span) (t : State) (ns : List ℕ) → FiveTo home ls fl → IsPinned home z dq l → IsPinned home z dr h → AreApart l h
       → IsArg home z a w p → IsArg home z b x q → IsArg home z c y v → NoName w → NoName y → IsFreeOf l w → IsFreeOf l y → IsFreeOf h y
       → and_then (of_division at z (a ∷ b ∷ c ∷ []) s) (λ vs. all_written at (Some z) (ls ++ (dq ∷ dr ∷ [])) vs s) ≡ went ns t → LongRuns fl sp z l h w x y p q v t ns
   long_division_runs fl {ls} {z} {dq} {dr} {a} {b} {c} {w} {x} {y} {p} {q} {v} l h sp at t ns five wq wr apart ia ib ic nw ny lw ly hy run =

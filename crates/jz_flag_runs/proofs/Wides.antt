@@ -9,6 +9,7 @@ use Rattle.jz_words.specs.declared.size.Size.{Size}
 use Rattle.jz_words.specs.Sizes.{modulus}
 use Rattle.jz_words.proofs.Residues.{some_words}
 use Rattle.x64_insn.specs.declared.types.FlagVal.{FlagVal}
+use Rattle.x64_insn.specs.declared.types.Place.{Place}
 use Rattle.x64_insn.specs.declared.types.Reg.TheVariants as reg
 use Rattle.x64_insn.specs.declared.types.Wide.TheVariants as wide
 use Rattle.x64_insn.specs.Products.{no_flags, product_flags, product_answer}
@@ -43,8 +44,9 @@ use Rattle.jz_row_operations.specs.Lowering.{numbers_from}
 use Rattle.jz_row_operations.proofs.Items.{item, more_items, one_item, first_placed, next_placed, at_numbers}
 use Rattle.jz_flag_rows.specs.Results.{IsPinned}
 use Rattle.jz_flag_rows.specs.Results as results
-use Rattle.jz_flag_rows.specs.Wide.{is_pinned, is_apart, unless_later, wide_code, wide_shown}
-use Rattle.jz_flag_runs.proofs.FlagLefts.{AreFlags, no_more, unlisted, AreApart, set_pinned, IsFreeOf, free_of, later_same, IsFirst, first_apart}
+use Rattle.jz_flag_rows.specs.Wide.{is_pinned, is_apart, wide_code, wide_shown}
+use Rattle.jz_flag_runs.specs.Laws.{AreNeedsMet}
+use Rattle.jz_flag_runs.proofs.FlagLefts.{AreFlags, no_more, unlisted, AreApart, set_pinned, IsFreeOf, free_of, wide_apart, turned_apart}
 use Rattle.jz_homes.proofs.Parts.{both_went, went_same}
 use Rattle.jz_homes.proofs.Reading.{word_itself, narrowed_itself}
 use Rattle.jz_homes.proofs.Writing.{dest_written, related_same, set_same}
@@ -93,10 +95,10 @@ module _ (frame : Frame) (home : Homes) (homing : IsHoming frame home) where
       )
 
   -- flags, and then two words in the order of the source
-  both_result : {ls : List Lval} {ps : List (Option Pinned)} {cs : List Bool} {fs : List FlagVal} {vs : List (Option Value)} {z : Size} {d e : Lval} {p q : Option Pinned} (at : Span) (m n : ℕ) (ns : List ℕ) (s t : State) (σ : over.State) → IsRelated home s σ → AreFlags home ls ps cs fs vs
+  pub words_result : {ls : List Lval} {ps : List (Option Pinned)} {cs : List Bool} {fs : List FlagVal} {vs : List (Option Value)} {z : Size} {d e : Lval} {p q : Option Pinned} (at : Span) (m n : ℕ) (ns : List ℕ) (s t : State) (σ : over.State) → IsRelated home s σ → AreFlags home ls ps cs fs vs
       → IsPinned home z d p → IsPinned home z e q → m < modulus z → n < modulus z → all_written at (Some z) (ls ++ (d ∷ e ∷ [])) (vs ++ (Some (word z m) ∷ Some (word z n) ∷ [])) s ≡ went ns t
       → (ns ≡ []) × IsRelated home t (record σ { vars = set_flags ps cs fs (set_pinned q z n (set_pinned p z m σ.vars)) })
-  both_result {ls} {ps} {cs} {fs} {vs} {z} {d} {e} {p} {q} at m n ns s t σ related flags wd we hm hn run =
+  words_result {ls} {ps} {cs} {fs} {vs} {z} {d} {e} {p} {q} at m n ns s t σ related flags wd we hm hn run =
       let g = flags_written frame home homing at (Some z) (d ∷ e ∷ []) (Some (word z m) ∷ Some (word z n) ∷ []) s σ ns t flags related run in
       let σ1 : over.State = record σ { vars = set_flags ps cs fs σ.vars } in
       let a = both_went (written (Some z) d (Some (word z m)) g.between) (λ u. all_written at (Some z) (e ∷ []) (Some (word z n) ∷ []) u) ns t g.went_on in
@@ -109,13 +111,6 @@ module _ (frame : Frame) (home : Homes) (homing : IsHoming frame home) where
         a.numbers ∙ ap (λ y. y ++ a.second) k.0 ∙ b.numbers ∙ ap (λ y. y ++ b.second) l.0 ∙ sym c.0,
         subst (λ u. IsRelated home u (record σ { vars = set_flags ps cs fs (set_pinned q z n (set_pinned p z m σ.vars)) })) c.1 (subst (λ f. IsRelated home b.value (record σ { vars = f })) same l.1),
       )
-
-  pub words_result : {ls : List Lval} {ps : List (Option Pinned)} {cs : List Bool} {fs : List FlagVal} {vs : List (Option Value)} {z : Size} {d e : Lval} {p q : Option Pinned} (at : Span) (m n : ℕ) (ns : List ℕ) (s t : State) (σ : over.State) → IsRelated home s σ → AreFlags home ls ps cs fs vs
-      → IsFirst home z d p q → IsPinned home z e q → m < modulus z → n < modulus z → all_written at (Some z) (ls ++ (d ∷ e ∷ [])) (vs ++ (Some (word z m) ∷ Some (word z n) ∷ [])) s ≡ went ns t
-      → (ns ≡ []) × IsRelated home t (record σ { vars = set_flags ps cs fs (set_pinned q z n (set_pinned p z m σ.vars)) })
-  words_result {ls} {ps} {cs} {fs} {vs} {z} {d} {e} {p} {q} at m n ns s t σ related flags (k, wd, first) we hm hn run =
-      let r = both_result {p = k} {q = q} at m n ns s t σ related flags wd we hm hn run in
-      (r.0, subst (λ v. IsRelated home t (record σ { vars = set_flags ps cs fs v })) (later_same k q z m n σ.vars ∙ ap (λ j. set_pinned q z n (set_pinned j z m σ.vars)) first) r.1)
 
 -- ---- MUL
 mul_by : (frame : Frame) (at : Span) (fl : Flags) (z : Size) (l h : Option Pinned) (y : Arg) (a b : ℕ) (σ τ1 τ2 : over.State) → value_of frame y z σ ≡ Some b → narrowed z (held_at reg.Rax l σ) ≡ Some a
@@ -147,7 +142,7 @@ module _ (frame : Frame) (home : Homes) (homing : IsHoming frame home) (s : Stat
 
   mul_goes : {ls : List Lval} {vs : List (Option Value)} {dh dl : Lval} (fl : Flags) (at here : Span) (z : Size) (l h : Option Pinned) (y : Arg) (a b : ℕ) (τ : over.State) (sh ns : List ℕ) (t : State)
       → τ.cells ≡ σ.cells → τ.memory ≡ σ.memory → set_pinned l z (product_answer z a b).low τ.vars ≡ set_pinned l z (product_answer z a b).low σ.vars → value_of frame y z τ ≡ Some b → shown y τ ≡ sh → narrowed z (held_at reg.Rax l τ) ≡ Some a
-      → a < modulus z → b < modulus z → AreFlags home ls (flags_of fl) all_five (product_answer z a b).flags vs → IsFirst home z dh h l → IsPinned home z dl l → AreApart h l
+      → a < modulus z → b < modulus z → AreFlags home ls (flags_of fl) all_five (product_answer z a b).flags vs → IsPinned home z dh h → IsPinned home z dl l → AreApart h l
       → all_written here (Some z) (ls ++ (dh ∷ dl ∷ [])) (vs ++ (Some (word z (product_answer z a b).high) ∷ Some (word z (product_answer z a b).low) ∷ [])) s ≡ went ns t → MulGoes fl at z l h y τ sh t
   mul_goes {ls} {vs} {dh} {dl} fl at here z l h y a b τ sh ns t cells memory vars reads shows rax ha hb flags wh wl apart run =
       let r = product_answer z a b in
@@ -204,7 +199,7 @@ module _ (frame : Frame) (home : Homes) (homing : IsHoming frame home) (s : Stat
   mul_at at fl z l h y = record { span = at; action = action.Wide wide.Mul z l h y; flags = fl }
 
   -- the first operand is in RAX: it is the low word's variable
-  product_in_place : {z : Size} {dh dl : Lval} {x y : Arg} {p q : Leaks} (fl : Flags) (l h : Option Pinned) (at here : Span) (t : State) (ns : List ℕ) → IsFirst home z dh h l → IsPinned home z dl l → AreApart h l → is_pinned l x ≡ true
+  product_in_place : {z : Size} {dh dl : Lval} {x y : Arg} {p q : Leaks} (fl : Flags) (l h : Option Pinned) (at here : Span) (t : State) (ns : List ℕ) → IsPinned home z dh h → IsPinned home z dl l → AreApart h l → is_pinned l x ≡ true
       → (k : ProductResult fl z dh dl x y p q here t ns) → RunsAs frame home homing s σ related (mul_at at fl z l h y ∷ []) t (shown_of q k.second ∷ [])
   product_in_place {z} {dh} {dl} {x} {y} {p} {q} fl l h at here t ns wh wl apart is k =
       let rax = pinned_reads frame z σ l x k.left is k.reads_left.reads in
@@ -212,7 +207,7 @@ module _ (frame : Frame) (home : Homes) (homing : IsHoming frame home) (s : Stat
       record { ran = _; goes = one_ran frame home homing s σ related (mul_at at fl z l h y) g.all g.after g.goes; agrees = g.agrees; shows = ap (λ v. v ∷ []) (append_nil g.all ∙ g.shows) }
 
   -- the second one is, and they are swapped
-  product_swapped_runs : {z : Size} {dh dl : Lval} {x y : Arg} {p q : Leaks} (fl : Flags) (l h : Option Pinned) (at here : Span) (t : State) (ns : List ℕ) → IsFirst home z dh h l → IsPinned home z dl l → AreApart h l → is_pinned l y ≡ true
+  product_swapped_runs : {z : Size} {dh dl : Lval} {x y : Arg} {p q : Leaks} (fl : Flags) (l h : Option Pinned) (at here : Span) (t : State) (ns : List ℕ) → IsPinned home z dh h → IsPinned home z dl l → AreApart h l → is_pinned l y ≡ true
       → (k : ProductResult fl z dh dl x y p q here t ns) → RunsAs frame home homing s σ related (mul_at at fl z l h x ∷ []) t (shown_of p k.first ∷ [])
   product_swapped_runs {z} {dh} {dl} {x} {y} {p} {q} fl l h at here t ns wh wl apart is k =
       let rax = pinned_reads frame z σ l y k.right is k.reads_right.reads in
@@ -223,7 +218,7 @@ module _ (frame : Frame) (home : Homes) (homing : IsHoming frame home) (s : Stat
       record { ran = _; goes = one_ran frame home homing s σ related (mul_at at fl z l h x) g.all g.after g.goes; agrees = g.agrees; shows = ap (λ v. v ∷ []) (append_nil g.all ∙ g.shows) }
 
   -- it is moved to RAX, with the variable or with none
-  product_copied : {z : Size} {dh dl : Lval} {x y : Arg} {p q : Leaks} (fl : Flags) (l h : Option Pinned) (at here : Span) (t : State) (ns : List ℕ) → IsFirst home z dh h l → IsPinned home z dl l → AreApart h l → NoName y → IsFreeOf l y
+  product_copied : {z : Size} {dh dl : Lval} {x y : Arg} {p q : Leaks} (fl : Flags) (l h : Option Pinned) (at here : Span) (t : State) (ns : List ℕ) → IsPinned home z dh h → IsPinned home z dl l → AreApart h l → NoName y → IsFreeOf l y
       → (k : ProductResult fl z dh dl x y p q here t ns) → RunsAs frame home homing s σ related (plain at (action.Mov z (arg.At reg.Rax l) x) ∷ mul_at at fl z l h y ∷ []) t (shown_of p k.first ∷ shown_of q k.second ∷ [])
   product_copied {z} {dh} {dl} {x} {y} {p} {q} fl l h at here t ns wh wl apart nm free k =
       let r = raxed at z l x y k.left [] k.reads_left.small k.reads_left.reads free in
@@ -241,7 +236,7 @@ module _ (frame : Frame) (home : Homes) (homing : IsHoming frame home) (s : Stat
   -- ---- whatever way the table chooses
   way_by : (s1 s2 s3 : Bool) {z : Size} {dh dl : Lval} {x y : Arg} {p q : Leaks} (fl : Flags) (l h : Option Pinned) (acts : List Action) (at here : Span) (t : State) (ns : List ℕ) → is_pinned l x ≡ s1 → (not (is_imm x) && is_pinned l y) ≡ s2 → is_apart l y ≡ s3
       → (if s1 then Some (action.Wide wide.Mul z l h y ∷ []) else if s2 then Some (action.Wide wide.Mul z l h x ∷ []) else if s3 then Some (action.Mov z (low_at l) x ∷ action.Wide wide.Mul z l h y ∷ []) else None) ≡ Some acts
-      → IsFirst home z dh h l → IsPinned home z dl l → AreApart h l → NoName y → (k : ProductResult fl z dh dl x y p q here t ns)
+      → IsPinned home z dh h → IsPinned home z dl l → AreApart h l → NoName y → (k : ProductResult fl z dh dl x y p q here t ns)
       → Goes frame home homing s σ related (lasting at fl acts)
       (if s1 then These (numbers_from q (count_of p)) ∷ [] else if s2 then These (numbers_from p 0) ∷ [] else These (numbers_from p 0) ∷ These (numbers_from q (count_of p)) ∷ []) t ns
   way_by true s2 s3 {x = x} {y = y} {p = p} {q = q} fl l h acts at here t ns e1 e2 e3 e wh wl apart nm k = record {
@@ -261,11 +256,20 @@ module _ (frame : Frame) (home : Homes) (homing : IsHoming frame home) (s : Stat
   }
   way_by false false false fl l h acts at here t ns e1 e2 e3 e wh wl apart nm k = absurd cc
 
-  pub product_goes : {z : Size} {dh dl : Lval} {x y : Arg} {p q : Leaks} (fl : Flags) (l h : Option Pinned) (acts : List Action) (at here : Span) (t : State) (ns : List ℕ) → wide_code z (unless_later h l) l x y ≡ Some acts → IsPinned home z dh h → IsPinned home z dl l → NoName y
+  -- MUL is there in each, and one variable is not asked for both registers
+  product_apart : (places : ℕ → Place) (s1 s2 s3 : Bool) (fl : Flags) (at : Span) (z : Size) (l h : Option Pinned) (x y : Arg) (acts : List Action)
+      → (if s1 then Some (action.Wide wide.Mul z l h y ∷ []) else if s2 then Some (action.Wide wide.Mul z l h x ∷ []) else if s3 then Some (action.Mov z (low_at l) x ∷ action.Wide wide.Mul z l h y ∷ []) else None) ≡ Some acts
+      → AreNeedsMet places (lasting at fl acts) → AreApart l h
+  product_apart places true s2 s3 fl at z l h x y acts e m = wide_apart places at fl wide.Mul z l h y (subst (λ a. AreNeedsMet places (lasting at fl a)) (sym (same_some _ acts e)) m).0
+  product_apart places false true s3 fl at z l h x y acts e m = wide_apart places at fl wide.Mul z l h x (subst (λ a. AreNeedsMet places (lasting at fl a)) (sym (same_some _ acts e)) m).0
+  product_apart places false false true fl at z l h x y acts e m = wide_apart places at fl wide.Mul z l h y (subst (λ a. AreNeedsMet places (lasting at fl a)) (sym (same_some _ acts e)) m).1.0
+  product_apart places false false false fl at z l h x y acts e m = absurd cc
+
+  pub product_goes : (places : ℕ → Place) {z : Size} {dh dl : Lval} {x y : Arg} {p q : Leaks} (fl : Flags) (l h : Option Pinned) (acts : List Action) (at here : Span) (t : State) (ns : List ℕ) → AreNeedsMet places (lasting at fl acts) → wide_code z h l x y ≡ Some acts → IsPinned home z dh h → IsPinned home z dl l → NoName y
       → ProductResult fl z dh dl x y p q here t ns → Goes frame home homing s σ related (lasting at fl acts) (wide_shown l x y p q) t ns
-  product_goes {z = z} {dh = dh} {x = x} {y = y} fl l h acts at here t ns e wh wl nm k =
-      let first : IsFirst home z dh (unless_later h l) l = (h, wh, refl) in
-      way_by (is_pinned l x) (not (is_imm x) && is_pinned l y) (is_apart l y) fl l (unless_later h l) acts at here t ns refl refl refl e first wl (first_apart home z dh (unless_later h l) l first) nm k
+  product_goes places {z = z} {x = x} {y = y} fl l h acts at here t ns met e wh wl nm k =
+      let apart = turned_apart l h (product_apart places (is_pinned l x) (not (is_imm x) && is_pinned l y) (is_apart l y) fl at z l h x y acts e met) in
+      way_by (is_pinned l x) (not (is_imm x) && is_pinned l y) (is_apart l y) fl l h acts at here t ns refl refl refl e wh wl apart nm k
 
   -- ---- `h, l = a * b`
   no_list : (z : Size) (a b : ℕ) → AreFlags home [] (flags_of no_flag) all_five (product_answer z a b).flags []

@@ -54,7 +54,7 @@ use Rattle.jz_homes.specs.Operands.{Leaks}
 use Rattle.jz_row_operations.specs.Codes.{no_flag, plain, lasting}
 use Rattle.jz_row_operations.specs.Lowering.{IsCompared, compares, denies, Lowers, sets, sets_if, LowersTest, tests, LowersLoopTest, tests_each, never_false}
 use Rattle.jz_flag_rows.specs.Results.{begins_at, carry_alone}
-use Rattle.jz_flag_rows.specs.Wide.{unless_later, quotient_code}
+use Rattle.jz_flag_rows.specs.Wide.{quotient_code}
 use Rattle.jz_flag_rows.specs.Conditions.{IsCondition, by_comparison as with_comparison, by_flag as with_flag, LowersFlagTest, asks_flag}
 use Rattle.jz_flag_rows.specs.Rows.{LowersFlags, carry_results, wide_products, quotients, choices, instructions, sets as sets_byte}
 use Rattle.jz_every_row.specs.Statements.{Makes, by_row, by_flags, MakesTest, by_comparison, by_flag, MakesLoopTest, by_loop_test, by_loop_flag}
@@ -63,7 +63,7 @@ use Rattle.jz_lowered.specs.Functions.{AreKinds, ArePassed, none_passed, one_pas
 use Rattle.jz_lowered.specs.Laws.{AreFormed}
 use Rattle.jz_lowered.proofs.SortedBodies.{bodies_sorted}
 use Rattle.jz_lowered.proofs.Within.{IsNamed, ArePinned, none_pinned, IsWithinOne, below_with, alu_within, cmov_within, set_within, arg_named, dest_named, row_within}
-use Rattle.jz_lowered.proofs.FlagWithin.{word_under, later_under, carry_under, condition_under, quotient_within, wide_code_within, instruction_within}
+use Rattle.jz_lowered.proofs.FlagWithin.{word_under, carry_under, condition_under, quotient_within, wide_code_within, instruction_within}
 
 -- ---- operations that can be encoded, whose variables have kinds
 pub record IsCoded (n : ℕ) (o : Operation) : Type 0 where
@@ -212,7 +212,7 @@ module _ (home : Homes) (kinds : List Kind) (are : AreKinds home kinds) where
   flags_coded : (o : statements.Operation) (os : List Operation) (items : List Numbers) → LowersFlags home o os items → AreCoded top os
   flags_coded o os items (carry_results {k} {acts} {at = here} whole layer size flag row can) = all_coded top here (carry_alone k) acts (carry_under home kinds are flag) (row_within home kinds are row) can
   flags_coded o os items (wide_products {z} {hk} {lk} {x} {y} {acts} {at = here} there whole size long hp lp ia ib ni code can) =
-      all_coded top here no_flag acts (none_pinned top) (wide_code_within home kinds are z (unless_later hk lk) lk x y acts (later_under home kinds are hk lk (word_under home kinds are hp)) (word_under home kinds are lp) (arg_named home kinds are ia) (arg_named home kinds are ib) code) can
+      all_coded top here no_flag acts (none_pinned top) (wide_code_within home kinds are z hk lk x y acts (word_under home kinds are hp) (word_under home kinds are lp) (arg_named home kinds are ia) (arg_named home kinds are ib) code) can
   flags_coded o os items (quotients {o = u} {w} {z} {k} {x} {y} {at = here} there whole div size long pin ia ib ni apart can) =
       all_coded top here no_flag (quotient_code u w z k x y) (none_pinned top) (quotient_within home kinds are u w z k x y (word_under home kinds are pin) (arg_named home kinds are ia) (arg_named home kinds are ib)) can
   flags_coded o os items (choices {v} {y} {n} {m} {d} {at = here} z wide kz h ie ni flag can) =

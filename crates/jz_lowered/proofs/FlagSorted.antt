@@ -36,7 +36,7 @@ use Rattle.jz_operations.specs.declared.operation.Action.TheVariants as action
 use Rattle.jz_operations.specs.declared.operation.Flags.{Flags}
 use Rattle.jz_operations.specs.declared.operation.Operation.{Operation}
 use Rattle.jz_operations.specs.Rows.{Output, low_at, high_at, outputs, changes, flags_of}
-use Rattle.jz_operations.specs.Reading.{written_in, left_in, five_flags, flags_left}
+use Rattle.jz_operations.specs.Reading.{left_in, five_flags, flags_left}
 use Rattle.jz_encodable.specs.Encodable.{CanEncode}
 use Rattle.jz_change.specs.declared.change.Numbers.{Numbers}
 use Rattle.jz_place.specs.Sorts.{IsSorted}
@@ -46,7 +46,7 @@ use Rattle.jz_row_operations.specs.Codes.{no_flag, plain, lasting}
 use Rattle.jz_row_operations.specs.Table.{is_imm, nothing, one_code}
 use Rattle.jz_flag_rows.specs.Results as results
 use Rattle.jz_flag_rows.specs.Results.{begins_at, carry_alone}
-use Rattle.jz_flag_rows.specs.Wide.{is_quotient, unless_later, wide_code, quotient_code}
+use Rattle.jz_flag_rows.specs.Wide.{is_quotient, wide_code, quotient_code}
 use Rattle.jz_flag_rows.specs.Conditions.{IsCondition, by_comparison, by_flag}
 use Rattle.jz_flag_rows.specs.Instructions.{count_code, HasInstruction, two_operands, with_carry, minus, steps, complement, swap, address, compares, shifts, rotates, times, times_by, wide_product, division}
 use Rattle.jz_flag_rows.specs.Rows.{LowersFlags, carry_results, wide_products, quotients, choices, instructions, sets}
@@ -118,15 +118,6 @@ module _ (home : Homes) (kinds : List Kind) (are : AreKinds home kinds) where
   pinned_word : {z : Size} {d : Lval} {k : Option Pinned} → results.IsPinned home z d k → PinnedWord k
   pinned_word (results.no_word at) = tt
   pinned_word {z} (results.a_word x k kd h span) = are.words (key_of (ref_of x)) k.variable z h
-
-  later_word : (a b : Option Pinned) → PinnedWord a → PinnedWord (unless_later a b)
-  later_word None b h = tt
-  later_word (Some k) None h = h
-  later_word (Some k) (Some j) h = if_later (nat_eq k.variable j.variable) h
-    where
-      if_later : (b : Bool) → IsWord k.variable → PinnedWord (if b then None else Some k)
-      if_later true h = tt
-      if_later false h = h
 
   low_out : (z : Size) (l : Option Pinned) → PinnedWord l → AreOut ((z, low_at l) ∷ [])
   low_out z None h = record { words = words_in [] tt; stack = refl }
@@ -214,12 +205,11 @@ module _ (home : Homes) (kinds : List Kind) (are : AreKinds home kinds) where
       let o = one_out z (arg.Var v) (written home kinds are id) in
       brought_all IsOut (not (is_imm x)) (action.Imul z v) z (arg.Var v) x y acts o o o code
   instruction_outs {z} (times_by {x} {i = m} {v} wide flags ia ic id ni) = one_all IsOut (action.ImulBy z v x m) (one_out z (arg.Var v) (written home kinds are id))
-  instruction_outs {z} (wide_product {hk} {lk} {x} {y} {acts} long flags hp lp ia ic ni code) = wide_outs z (unless_later hk lk) lk x y acts (later_word hk lk (pinned_word hp)) (pinned_word lp) code
+  instruction_outs {z} (wide_product {hk} {lk} {x} {y} {acts} long flags hp lp ia ic ni code) = wide_outs z hk lk x y acts (pinned_word hp) (pinned_word lp) code
   instruction_outs {z} (division {qk} {rk} {x} {y} {w} long flags qp rp ihi ilo ic ni far_q far_w far_r) =
-      let l = unless_later qk rk in
-      let p = later_word qk rk (pinned_word qp) in
+      let p = pinned_word qp in
       let q = pinned_word rp in
-      divide_two_all IsOut z l rk x y w (low_out z l p) (high_out z rk q) (wide_out wide_op.Div z l rk w p q)
+      divide_two_all IsOut z qk rk x y w (low_out z qk p) (high_out z rk q) (wide_out wide_op.Div z qk rk w p q)
 
   -- ---- statements
   set_sorted : (at : Span) (compare : Option Operation) (e : Expr) (c : Condition) (ps : List (Leaks × Leaks)) (b : Arg) → IsCondition home at e compare c ps → IsSorted kinds (plain at (action.Set c b)) → AllSorted home kinds are (option_to_list compare ++ (plain at (action.Set c b) ∷ []))
@@ -228,7 +218,7 @@ module _ (home : Homes) (kinds : List Kind) (are : AreKinds home kinds) where
 
   pub flags_sorted : (o : statements.Operation) (os : List Operation) (items : List Numbers) → LowersFlags home o os items → AllSorted home kinds are os
   flags_sorted o os items (carry_results {k} {acts} {at} whole layer size flag row can) = sorted_all at (carry_alone k) acts (outs_of at acts (row_sorted home kinds are at row can)) can
-  flags_sorted o os items (wide_products {z} {hk} {lk} {x} {y} {acts} {at} here whole size long hp lp ia ib ni code can) = sorted_all at no_flag acts (wide_outs z (unless_later hk lk) lk x y acts (later_word hk lk (pinned_word hp)) (pinned_word lp) code) can
+  flags_sorted o os items (wide_products {z} {hk} {lk} {x} {y} {acts} {at} here whole size long hp lp ia ib ni code can) = sorted_all at no_flag acts (wide_outs z hk lk x y acts (pinned_word hp) (pinned_word lp) code) can
   flags_sorted o os items (quotients {o = u} {w} {z} {k} {x} {y} {at} here whole div size long pin ia ib ni apart can) = sorted_all at no_flag (quotient_code u w z k x y) (quotient_outs u w z k x y (pinned_word pin)) can
   flags_sorted o os items (choices {v} {y} {n} {m} {d} {at} z wide kz h ie ni flag can) = (moved_sorted home kinds are at (condition.Flag n d) z m y (key_of (ref_of v)) h, tt)
   flags_sorted o os items (instructions {to} {fl} {acts} {at} text size row can) = sorted_all (begins_at to at) fl acts (instruction_outs row) can

@@ -1,6 +1,6 @@
 -- The variables that operations of the table of flags name have kinds.
-use Rattle.std.proofs.Common.{◌≡◌, ℕ, ◌<◌, Bool, true, false, List, [], ◌∷◌, length, Option, Some, None, refl, sym, ap, ◌∙◌, subst, pos}
-use Rattle.std.specs.Prelude.{nat_eq, not, if◌then◌else◌, All}
+use Rattle.std.proofs.Common.{◌≡◌, ℕ, ◌<◌, Bool, true, false, List, [], length, Option, Some, None, refl, subst, pos}
+use Rattle.std.specs.Prelude.{not, if◌then◌else◌, All}
 use Rattle.std.proofs.lemmas.List.Elements.{All-nil, All-cons, All-head}
 use Rattle.jz_words.specs.declared.size.Size.{Size}
 use Rattle.jz_words.specs.declared.size.Size.TheVariants.{S8}
@@ -22,7 +22,6 @@ use Rattle.jz_operations.specs.declared.operation.Arg.{Arg}
 use Rattle.jz_operations.specs.declared.operation.Arg.TheVariants as arg
 use Rattle.jz_operations.specs.declared.operation.Action.{Action}
 use Rattle.jz_operations.specs.declared.operation.Action.TheVariants as action
-use Rattle.jz_operations.specs.declared.operation.Condition.{Condition}
 use Rattle.jz_operations.specs.declared.operation.Condition.TheVariants as condition
 use Rattle.jz_operations.specs.declared.operation.Flags.{Flags}
 use Rattle.jz_operations.specs.Rows.{low_at, high_at, flags_of}
@@ -30,10 +29,10 @@ use Rattle.jz_operations.specs.Reading.{address_vars, flag_read}
 use Rattle.jz_change.specs.declared.change.Numbers.{Numbers}
 use Rattle.jz_homes.specs.Homes.{Homes}
 use Rattle.jz_homes.specs.Sums.{Sum}
-use Rattle.jz_row_operations.specs.Table.{is_imm, nothing, one_code, two_code}
+use Rattle.jz_row_operations.specs.Table.{is_imm, nothing, one_code}
 use Rattle.jz_flag_rows.specs.Results as results
 use Rattle.jz_flag_rows.specs.Results.{IsFlag, AreFive, AreFour, AreTwo, carry_alone}
-use Rattle.jz_flag_rows.specs.Wide.{is_quotient, unless_later, wide_code, quotient_code}
+use Rattle.jz_flag_rows.specs.Wide.{is_quotient, wide_code, quotient_code}
 use Rattle.jz_flag_rows.specs.Conditions.{IsFlagCondition, a_flag, denied}
 use Rattle.jz_flag_rows.specs.Instructions.{IsLeaAddress, with_base, a_number, an_index, IsCount, by_number, by_variable, count_code, HasInstruction, two_operands, with_carry, minus, steps, complement, swap, address, compares, shifts, rotates, times, times_by, wide_product, division}
 use Rattle.jz_lowered.specs.Functions.{AreKinds}
@@ -55,15 +54,6 @@ module _ (home : Homes) (kinds : List Kind) (are : AreKinds home kinds) where
   pub word_under : {z : Size} {d : Lval} {k : Option Pinned} → results.IsPinned home z d k → IsPinned top k
   word_under (results.no_word at) = tt
   word_under {z} (results.a_word x k kd h span) = (are.words (key_of (ref_of x)) k.variable z h).0
-
-  if_under : (b : Bool) (k : Pinned) → k.variable < top → IsPinned top (if b then None else Some k)
-  if_under true k h = tt
-  if_under false k h = h
-
-  pub later_under : (a b : Option Pinned) → IsPinned top a → IsPinned top (unless_later a b)
-  later_under None b h = tt
-  later_under (Some k) None h = h
-  later_under (Some k) (Some j) h = if_under (nat_eq k.variable j.variable) k h
 
   five_under : {to rest : List Lval} {fl : Flags} → AreFive home to fl rest → ArePinned top (flags_of fl)
   five_under (results.five rest o c s p z) = (flag_under o, (flag_under c, (flag_under s, (flag_under p, (flag_under z, tt)))))
@@ -160,12 +150,11 @@ module _ (home : Homes) (kinds : List Kind) (are : AreKinds home kinds) where
   instruction_within {z} (times_by {x} {i = m} {v} wide fs ia ic id ni) =
       record { actions = one_within home kinds are (action.ImulBy z v x m) (imul_by_within top z v x m (register_under home kinds are id) (arg_named home kinds are ia)); flags = five_under fs }
   instruction_within {z} (wide_product {hk} {lk} {x} {y} {acts} long fs hp lp ia ic ni code) =
-      record { actions = wide_code_within z (unless_later hk lk) lk x y acts (later_under hk lk (word_under hp)) (word_under lp) (arg_named home kinds are ia) (arg_named home kinds are ic) code; flags = five_under fs }
+      record { actions = wide_code_within z hk lk x y acts (word_under hp) (word_under lp) (arg_named home kinds are ia) (arg_named home kinds are ic) code; flags = five_under fs }
   instruction_within {z} (division {qk} {rk} {x} {y} {w} long fs qp rp ihi ilo ic ni far_q far_w far_r) =
-      let q = unless_later qk rk in
-      let p = later_under qk rk (word_under qp) in
+      let p = word_under qp in
       let r = word_under rp in
       record {
-        actions = divide_two_all IsIn z q rk x y w (low_within z q y p (arg_named home kinds are ilo)) (high_within z rk x r (arg_named home kinds are ihi)) (wide_within top wide_op.Div z q rk w p r (arg_named home kinds are ic));
+        actions = divide_two_all IsIn z qk rk x y w (low_within z qk y p (arg_named home kinds are ilo)) (high_within z rk x r (arg_named home kinds are ihi)) (wide_within top wide_op.Div z qk rk w p r (arg_named home kinds are ic));
         flags = five_under fs;
       }

@@ -42,8 +42,8 @@ kinds_for : (f : Fun) → AreKinds (homes_for f) (table_of f).kinds
 kinds_for f = table_has_kinds (table_of f) (all_entered no_homes (variables_of f) none_entered)
 
 pub keeps_runs : (f : Fun) (l : LoweredFun) (k : Change) → IsFunctionLowered f l k → KeepsRuns f l k
-keeps_runs f l k h =
-    bodies_carry (frame_of l.stack) (homes_for f) (subst (λ s. IsHoming (frame_of s) (homes_for f)) (sym h.stack) (homing_for f)) (plain_body f) (body_of l.ir.body) k h.lowered.body
+keeps_runs f l k h places met =
+    bodies_carry places (frame_of l.stack) (homes_for f) (subst (λ s. IsHoming (frame_of s) (homes_for f)) (sym h.stack) (homing_for f)) (plain_body f) (body_of l.ir.body) k h.lowered.body met
 
 pub keeps_cases : (f : Fun) (l : LoweredFun) (k : Change) → IsFunctionLowered f l k → KeepsCases f l k
 keeps_cases f l k h = bodies_have_cases (homes_for f) (plain_body f) (body_of l.ir.body) k h.lowered.body

@@ -1,5 +1,5 @@
 -- A function as operations over variables.
-use Rattle.std.specs.Prelude.{◌≡◌, ◌≤◌, ◌^◌, ◌⊎◌, List, [], ◌∷◌, length, map}
+use Rattle.std.specs.Prelude.{◌≡◌, ◌≤◌, ◌^◌, ◌⊎◌, ℕ, List, [], ◌∷◌, length, map}
 use Rattle.x64_insn.specs.declared.types.Place.{Place}
 use Rattle.x64_insn.specs.declared.types.Place.TheVariants as place
 use Rattle.x64_insn.specs.declared.types.Reg.TheVariants as reg
@@ -22,7 +22,7 @@ use Rattle.jz_place.specs.declared.tree.Passed.{Passed}
 use Rattle.jz_place.specs.Bodies.{body_of}
 use Rattle.jz_codable.specs.Ready.{IsReady, IsShort}
 use Rattle.jz_homes.specs.Homes.{Homes}
-use Rattle.jz_every_row.specs.Bodies.{beside}
+use Rattle.jz_every_row.specs.Bodies.{beside, HasNeedsMet}
 use Rattle.jz_lowered.specs.Functions.{ArePassed, IsLoweredFun}
 use Rattle.jz_short.specs.Lengths.{statements_in}
 use Rattle.jz_operands.specs.TableHomes.{homes_by}
@@ -61,10 +61,12 @@ pub record IsFunctionLowered (f : Fun) (l : LoweredFun) (k : Change) : Type 0 wh
   pub stack : l.stack ≡ (table_of f).stack
   pub in_use : l.ir.in_use ≡ all_places
 
--- each run of the body is followed by one of the operations, for each number of turns
+-- each run of the body is followed by one of the operations, for each number of turns, where some
+-- places meet all their needs
 abbrev pub KeepsRuns : Fun → LoweredFun → Change → Type 0
 KeepsRuns f l k =
-    Carries (beside (homes_for f)) (λ s n. Goes statements.source (plain_body f) n s)
+    (places : ℕ → Place) → HasNeedsMet places (body_of l.ir.body)
+    → Carries (beside (homes_for f)) (λ s n. Goes statements.source (plain_body f) n s)
     (λ σ n. Goes (variables (frame_of l.stack)) (body_of l.ir.body) n σ) k
 
 abbrev pub KeepsCases : Fun → LoweredFun → Change → Type 0

@@ -4,6 +4,7 @@ use Rattle.std.specs.Prelude.{All, Contains, ⊤, not, ◌&&◌, if◌then◌els
 use Rattle.std.specs.Option.{option_to_list}
 use Rattle.std.proofs.lemmas.List.Elements.{All-nil, All-cons, All-head, All-tail, All-contains_itself}
 use Rattle.jz_words.specs.declared.size.Size.{Size}
+use Rattle.jz_words.specs.declared.size.Size.TheVariants.{S8}
 use Rattle.x64_insn.specs.declared.types.One.{One}
 use Rattle.x64_insn.specs.declared.types.One.TheVariants as one
 use Rattle.x64_insn.specs.declared.types.Shift.{Shift}
@@ -19,8 +20,7 @@ use Rattle.jz_tree.specs.declared.stmt.Lval.{Lval}
 use Rattle.jz_tree.specs.declared.stmt.Lval.TheVariants as lval
 use Rattle.jz_tree.specs.declared.expr.Var.{Var}
 use Rattle.jz_type_names.specs.Parts.{cells_in}
-use Rattle.jz_meaning.specs.Assignments.{left_span, whole_of}
-use Rattle.jz_meaning.specs.Statements.{Condition}
+use Rattle.jz_meaning.specs.Assignments.{whole_of}
 use Rattle.jz_meaning.specs.Statements as statements
 use Rattle.jz_operations.specs.declared.operation.Arg.{Arg}
 use Rattle.jz_operations.specs.declared.operation.Arg.TheVariants as arg
@@ -40,17 +40,17 @@ use Rattle.jz_row_operations.specs.Codes.{no_flag, plain}
 use Rattle.jz_row_operations.specs.Table.{is_imm, nothing, one_code}
 use Rattle.jz_row_operations.specs.Lowering.{numbers_from}
 use Rattle.jz_flag_rows.specs.Results.{begins_at, carry_alone, AreFive, five, AreFour, four, AreTwo, two}
-use Rattle.jz_flag_rows.specs.Wide.{is_pinned, is_quotient, unless_later, wide_code, wide_shown, quotient_code, three_from, divide_shown, divide_two_shown}
+use Rattle.jz_flag_rows.specs.Wide.{is_pinned, is_quotient, wide_code, wide_shown, quotient_code, three_from, divide_shown, divide_two_shown}
 use Rattle.jz_flag_rows.specs.Conditions.{IsCondition, by_comparison, by_flag, condition_items, leaked}
 use Rattle.jz_flag_rows.specs.Instructions.{count_code, HasInstruction, two_operands, with_carry, minus, steps, complement, swap, address, compares, shifts, rotates, times, times_by, wide_product, division}
 use Rattle.jz_flag_rows.specs.Rows.{LowersFlags, carry_results, wide_products, quotients, choices, instructions, sets}
 use Rattle.jz_flag_rows.proofs.Codes.{one_all, brought_all, count_all, wide_all, divide_all, divide_two_all}
 use Rattle.jz_compiled.specs.Layout.{Name, Place}
-use Rattle.jz_item_names.specs.Names.{keys_in, left_keys, operation_keys, IsLeaked, AreLeaked}
+use Rattle.jz_item_names.specs.Names.{keys_in, left_keys, operation_keys, IsLeaked}
 use Rattle.jz_item_names.proofs.Keys.{parts}
 use Rattle.jz_lowering_cases.specs.Staying.{ArePlaced, IsInside, IsSmall, left_cells, assigned_cells, instructed_cells, OperationInside}
 use Rattle.jz_lowering_cases.proofs.Parts.{IsOf, IsLeftOf, whole_is_of}
-use Rattle.jz_lowering_cases.proofs.Rows.{AllLeaked, from_leaked, joined_leaked, two_leaked, one_leaked, row_leaked, condition_leaked, Arg', Of, LeftOf, ActionStays, AllStay, OpsStay, arg_in, dest_in, bin_of, row_stays, compared_stays, lasting_stay, right_is, left_is}
+use Rattle.jz_lowering_cases.proofs.Rows.{AllLeaked, from_leaked, joined_leaked, two_leaked, one_leaked, row_leaked, condition_leaked, Arg', ActionStays, AllStay, OpsStay, arg_in, dest_in, bin_of, row_stays, compared_stays, lasting_stay, right_is}
 
 -- ---- numbers
 three_leaked : (i : ℕ) → All IsLeaked (three_from i)
@@ -197,9 +197,9 @@ module _ (home : Homes) (places : List Place) (slots : ℕ → ℕ) (size : ℕ)
       brought_all Stays (not (is_imm x)) (action.Imul z v) z (arg.Var v) x y acts (tt, (u, tt)) (u, tt) (w, tt) code
   instruction_stays {z} l a (times_by {x} {i = m} {v} wide flags ia ic id ni) = one_all Stays (action.ImulBy z v x m) (arg_in home places slots size placed small called a.0 ia, tt)
   instruction_stays {z} l a (wide_product {hk} {lk} {x} {y} {acts} long flags hp lp ia ic ni code) =
-      wide_stays z (unless_later hk lk) lk x y acts (arg_in home places slots size placed small called a.0 ia) (arg_in home places slots size placed small called a.1.0 ic) code
+      wide_stays z hk lk x y acts (arg_in home places slots size placed small called a.0 ia) (arg_in home places slots size placed small called a.1.0 ic) code
   instruction_stays {z} l a (division {qk} {rk} {x} {y} {w} long flags qp rp ihi ilo ic ni far_q far_w far_r) =
-      divide_two_all Stays z (unless_later qk rk) rk x y w (tt, (arg_in home places slots size placed small called a.1.0 ilo, tt)) (tt, (arg_in home places slots size placed small called a.0 ihi, tt)) (arg_in home places slots size placed small called a.1.1.0 ic, tt)
+      divide_two_all Stays z qk rk x y w (tt, (arg_in home places slots size placed small called a.1.0 ilo, tt)) (tt, (arg_in home places slots size placed small called a.0 ihi, tt)) (arg_in home places slots size placed small called a.1.1.0 ic, tt)
 
 -- ---- statements
 module _ (home : Homes) (places : List Place) (slots : ℕ → ℕ) (size : ℕ) (placed : ArePlaced home places slots) (small : IsSmall places size) where
@@ -247,7 +247,7 @@ module _ (home : Homes) (places : List Place) (slots : ℕ → ℕ) (size : ℕ)
     operands_are : AllArgs (Contains b) (IsInside home) args
     operands_are = args_are (Contains b) (IsInside home) args named.1 held.1
 
-  set_stays : (called : List Name) {at : Span} {e : Expr} {compare : Option Operation} {c : Choice} {ps : List (Leaks × Leaks)} (v : Arg) → IsOf (Contains called) (IsInside home) e → Arg' home places slots size placed small called _ v → IsCondition home at e compare c ps
+  set_stays : (called : List Name) {at : Span} {e : Expr} {compare : Option Operation} {c : Choice} {ps : List (Leaks × Leaks)} (v : Arg) → IsOf (Contains called) (IsInside home) e → Arg' home places slots size placed small called S8 v → IsCondition home at e compare c ps
       → OpsStay home places slots size placed small called (option_to_list compare ++ (plain at (action.Set c v) ∷ []))
   set_stays called v h d (by_comparison k) = (compared_stays home places slots size placed small called h k, ((d, tt), tt))
   set_stays called v h d (by_flag k) = ((d, tt), tt)
@@ -260,7 +260,7 @@ module _ (home : Homes) (places : List Place) (slots : ℕ → ℕ) (size : ℕ)
       let n = operation_keys (statements.assign (h ∷ l ∷ []) u e None at) in
       let k = bin_of home places slots size placed small n op.Mul x1 x2 here (whole_is h l u e _ at whole inside) in
       lasting_stay home places slots size placed small n at no_flag acts
-      (from_all home places slots size placed small n acts (wide_stays home places slots size placed small n z (unless_later hk lk) lk x y acts (arg_in home places slots size placed small n k.0 ia) (arg_in home places slots size placed small n k.1 ib) code))
+      (from_all home places slots size placed small n acts (wide_stays home places slots size placed small n z hk lk x y acts (arg_in home places slots size placed small n k.0 ia) (arg_in home places slots size placed small n k.1 ib) code))
   flags_stay o os items inside (quotients {r} {u} {e} {a = x1} {b = x2} {o = v} {w} {z} {k} {x} {y} {at} here whole div s long pin ia ib ni apart can) =
       let n = operation_keys (statements.assign (r ∷ []) u e None at) in
       let m = bin_of home places slots size placed small n v x1 x2 here (right_is home places slots size placed small r u e _ None at whole inside) in

@@ -33,7 +33,7 @@ use Rattle.jz_row_operations.specs.Rows.{alu_of, commutes, carry_alu, shift_of}
 use Rattle.jz_row_operations.specs.Table.{same_arg, is_imm, is_free, brought, behind, nothing}
 use Rattle.jz_row_operations.specs.Lowering.{HasRow, moves, sums, carries, signs, times as times_row, times_by as times_by_row, shifts as shifts_row, shifts_by, extends, lowest, Lowers, sets, sets_if}
 use Rattle.jz_flag_rows.specs.Results.{begins_at, carry_alone}
-use Rattle.jz_flag_rows.specs.Wide.{is_pinned, is_apart, unless_later, wide_code, quotient_code}
+use Rattle.jz_flag_rows.specs.Wide.{is_pinned, is_apart, wide_code, quotient_code}
 use Rattle.jz_flag_rows.specs.Instructions.{count_code, HasInstruction, two_operands, with_carry, minus, steps, complement, swap, address, compares, shifts, rotates, times, times_by, wide_product, division}
 use Rattle.jz_flag_rows.specs.Rows.{LowersFlags, carry_results, wide_products, quotients, choices, instructions, sets as sets_byte}
 use Rattle.jz_every_row.specs.Statements.{Makes, by_row, by_flags}
@@ -115,7 +115,7 @@ instruction_three {z = z} (shifts {k = k} {x = x} {b} {n} {m} {acts = acts} is f
 instruction_three {z = z} (rotates {k = k} {x = x} {b} {n} {m} {acts = acts} is fs ia ic id e) = from_two acts (count_two k z b x n m acts e)
 instruction_three {z = z} (times {x = x} {y} {v} {acts = acts} w fs ia ic id ni e) = from_two acts (brought_two (not (is_imm x)) (action.Imul z v) z (arg.Var v) x y acts e)
 instruction_three (times_by w fs ia ic id ni) = one_three _
-instruction_three {z = z} (wide_product {hk = hk} {lk} {x = x} {y} {acts = acts} long fs ph pl ia ic ni e) = from_two acts (product_two z (unless_later hk lk) lk x y acts e)
+instruction_three {z = z} (wide_product {hk = hk} {lk} {x = x} {y} {acts = acts} long fs ph pl ia ic ni e) = from_two acts (product_two z hk lk x y acts e)
 instruction_three (division long fs pq pr ia ib ic ni qx qw rw') = all_three _ _ _
 
 -- ---- statements
@@ -138,7 +138,7 @@ set_three (Some c) o = omega arith
 
 flags_three : (home : Homes) (o : statements.Operation) (os : List Operation) (items : List Numbers) → LowersFlags home o os items → length os ≤ 3
 flags_three home o os items (carry_results {k = k} {acts} {at = at} whole sum size flag row can) = acts_three at (carry_alone k) acts (from_two acts (row_two row))
-flags_three home o os items (wide_products {z = z} {hk} {lk} {x} {y} {acts = acts} {at = at} here whole size long ph pl ia ib ni code can) = acts_three at no_flag acts (from_two acts (product_two z (unless_later hk lk) lk x y acts code))
+flags_three home o os items (wide_products {z = z} {hk} {lk} {x} {y} {acts = acts} {at = at} here whole size long ph pl ia ib ni code can) = acts_three at no_flag acts (from_two acts (product_two z hk lk x y acts code))
 flags_three home o os items (quotients {o = op} {w} {z} {k} {x} {y} {at = at} here whole div size long pin ia ib ni apart can) = acts_three at no_flag (quotient_code op w z k x y) (all_three _ _ _)
 flags_three home o os items (choices z wide kind' h ie ni flag can) = omega arith
 flags_three home o os items (instructions {to = to} {fl = fl} {acts} {at = at} is size row can) = acts_three (begins_at to at) fl acts (instruction_three row)

@@ -2,7 +2,7 @@ use Rattle.jz_flag_runs.proofs.Whole.{flags_go, flag_tests_go, flags_many}
 use Rattle.jz_flag_runs.proofs.laws.flag_rows_keep_runs.Goals as goal
 
 pub returns-clause-statements : goal.returns-clause-statements
-returns-clause-statements c = λ home o os items l frame s t σ ns homing h run. flags_go home o os items l frame s t σ ns homing h run
+returns-clause-statements c = λ places home o os items met l frame s t σ ns homing h run. flags_go places home o os items met l frame s t σ ns homing h run
 
 pub returns-clause-tests : goal.returns-clause-tests
 returns-clause-tests c = λ home t a i l frame s σ ns z homing h run. flag_tests_go home t a i l frame s σ ns z homing h run
