@@ -25,6 +25,8 @@ mod live_tests;
 #[cfg(test)]
 mod memory_tests;
 #[cfg(test)]
+mod pinned_tests;
+#[cfg(test)]
 mod placing_tests;
 #[cfg(test)]
 mod question_tests;

@@ -72,16 +72,22 @@ free_disp t m (an_index j k i other) none = refl
 no_fit : (b : Bool) → b ≡ false → IsTrue b → ⊥
 no_fit b e h = absurd cc
 
+one_pair : (x y : ℕ × ℕ) → x ∷ [] ≡ y ∷ [] → x ≡ y
+one_pair x y e = cc
+
+same_factor : (u : Term) (j k : ℕ) → pair_of u ∷ [] ≡ (j, k) ∷ [] → u.factor ≡ k
+same_factor u j k e = ap (λ (p : ℕ × ℕ). p.1) (one_pair (pair_of u) (j, k) e)
+
 -- a sum of one term with the factor 1 has a base
 one_based : (t : Sum) (m : Address) (u : Term) → pair_of u ∷ [] ≡ t.terms → u.factor ≡ 1 → IsLeaAddress t m → (IsAddress t m → ⊥) → ⊥
 one_based t m u e one (with_base h) none = none h
 one_based t m u e one (a_number i) none = absurd cc
-one_based t m u e one (an_index j k i other) none = let f : u.factor ≡ k = cc in other (sym f ∙ one)
+one_based t m u e one (an_index j k i other) none = other (sym (same_factor u j k e) ∙ one)
 
 factor_of : (t : Sum) (m : Address) (u : Term) → pair_of u ∷ [] ≡ t.terms → is_scale u.factor ≡ false → IsLeaAddress t m → (IsAddress t m → ⊥) → HasScale m.index → ⊥
-factor_of t m u e no (with_base h) none scale = none h
-factor_of t m u e no (a_number i) none scale = absurd cc
-factor_of t m u e no (an_index j k i other) none scale = let f : u.factor ≡ k = cc in no_fit (is_scale k) (ap is_scale (sym f) ∙ no) scale
+factor_of t m u e small (with_base h) none scale = none h
+factor_of t m u e small (a_number i) none scale = absurd cc
+factor_of t m u e small (an_index j k i other) none scale = no_fit (is_scale k) (ap is_scale (sym (same_factor u j k e)) ∙ small) scale
 
 two_based : (t : Sum) (m : Address) (u v : Term) → pair_of u ∷ pair_of v ∷ [] ≡ t.terms → IsLeaAddress t m → (IsAddress t m → ⊥) → ⊥
 two_based t m u v e (with_base h) none = none h
@@ -100,7 +106,7 @@ module _ (home : Homes) (e : Expr) where
     no_free_base u f one t m h is other fields = one_based t m u (ap pairs_of (sym f) ∙ terms_of_whole home e all t w h) one is other
 
     pub no_free_scale : (u : Term) → all.found ≡ One u → is_scale u.factor ≡ false → NeverFree home e
-    no_free_scale u f no t m h is other fields = factor_of t m u (ap pairs_of (sym f) ∙ terms_of_whole home e all t w h) no is other fields.1
+    no_free_scale u f small t m h is other fields = factor_of t m u (ap pairs_of (sym f) ∙ terms_of_whole home e all t w h) small is other fields.1
 
     pub no_free_two : (u v : Term) → all.found ≡ Two u v → NeverFree home e
     no_free_two u v f t m h is other fields = two_based t m u v (ap pairs_of (sym f) ∙ terms_of_whole home e all t w h) is other

@@ -111,30 +111,31 @@ module _ (home : Homes) (to : List Lval) (ns : List ℕ) (es : List Expr) where
         {d : Lval} {e : Expr} {b : Arg} {r : Leaks} {compare : Option Operation} {c : Condition} {ps : List (Leaks × Leaks)} {os : List Operation} {is : List Numbers}
         → to ≡ d ∷ [] → es ≡ e ∷ [] → i.name ≡ name.Setcc → IsDest home S8 d b r → IsCondition home (left_span d) e compare c ps → CanEncode (action.Set c b) → Named i at os is
 
-  named : (i : Instance) (at : Span) (os : List Operation) (is : List Numbers) → spelled ns ≡ Some i → LowersFlags home (instruction to ns es at) os is → Named i at os is
-  named i at os is e (instructions {i = j} {z = z} {fl = fl} {acts = acts} {items = items} f size row can) =
-      let s = same_some j i (sym f ∙ e) in
-      subst (λ (k : Instance). Named k at (lasting (begins_at to at) fl acts) items) s (by_row size row can)
-  named i at os is e (sets {i = j} {d = d} {e = c} f byte dest cond can) =
-      let s = same_some j i (sym f ∙ e) in
-      subst (λ (k : Instance). Named k at os is) s (by_byte {d = d} {e = c} refl refl byte dest cond can)
+named : (home : Homes) (ns : List ℕ) (to : List Lval) (es : List Expr) (i : Instance) (at : Span) (os : List Operation) (is : List Numbers) → spelled ns ≡ Some i → LowersFlags home (instruction to ns es at) os is → Named home to ns es i at os is
+named home ns to es i at os is e (instructions {i = j} {z = z} {fl = fl} {acts = acts} {items = items} f size row can) =
+    let s = same_some j i (sym f ∙ e) in
+    subst (λ (k : Instance). Named home to ns es k at (lasting (begins_at to at) fl acts) items) s (by_row size row can)
+named home ns to es i at os is e (sets {i = j} {d = d} {e = c} f byte dest cond can) =
+    let s = same_some j i (sym f ∙ e) in
+    subst (λ (k : Instance). Named home (d ∷ []) ns (c ∷ []) k at os is) s (by_byte {d = d} {e = c} refl refl byte dest cond can)
 
+is_named : (home : Homes) (ns : List ℕ) (to : List Lval) (es : List Expr) (at : Span) (os : List Operation) (is : List Numbers) → LowersFlags home (instruction to ns es at) os is → (i : Instance) × (spelled ns ≡ Some i)
+is_named home ns to es at os is (instructions {i = j} f size row can) = (j, f)
+is_named home ns to es at os is (sets {i = j} f byte dest cond can) = (j, f)
+
+module _ (home : Homes) (to : List Lval) (ns : List ℕ) (es : List Expr) where
   no_name : (i : Instance) → ◌≡◌ {A = Option Instance} None (Some i) → ⊥
   no_name i e = absurd cc
 
-  is_named : (at : Span) (os : List Operation) (is : List Numbers) → LowersFlags home (instruction to ns es at) os is → (i : Instance) × (spelled ns ≡ Some i)
-  is_named at os is (instructions {i = j} f size row can) = (j, f)
-  is_named at os is (sets {i = j} f byte dest cond can) = (j, f)
-
   pub unspelled : spelled ns ≡ None → NeverInstruction home to ns es
-  unspelled none at os is h = let r = is_named at os is h in no_name r.0 (sym none ∙ r.1)
+  unspelled none at os is h = let r = is_named home ns to es at os is h in no_name r.0 (sym none ∙ r.1)
 
   module _ (i : Instance) (spells : spelled ns ≡ Some i) where
-    no_byte_named : (at : Span) (os : List Operation) (is : List Numbers) → i.name ≡ name.Setcc → NeverByteOf home to es → Named i at os is → ⊥
+    no_byte_named : (at : Span) (os : List Operation) (is : List Numbers) → i.name ≡ name.Setcc → NeverByteOf home to es → Named home to ns es i at os is → ⊥
     no_byte_named at os is byte none (by_row {z} {fl} {acts} {items} size row can) = no_byte home z i.name to es fl acts items byte row
     no_byte_named at os is byte none (by_byte {d} {e} {b} {r} {compare} {c} {ps} left operand same dest cond can) = none d e left operand (left_span d) b r compare c ps dest cond can
 
-    no_row_named : (at : Span) (os : List Operation) (is : List Numbers) → (i.name ≡ name.Setcc → ⊥) → NeverSized home i to es → Named i at os is → ⊥
+    no_row_named : (at : Span) (os : List Operation) (is : List Numbers) → (i.name ≡ name.Setcc → ⊥) → NeverSized home i to es → Named home to ns es i at os is → ⊥
     no_row_named at os is other none (by_row {z} {fl} {acts} {items} size row can) = none z fl acts items size (by_form home z i.name to es fl acts items row) can
     no_row_named at os is other none (by_byte {d} {e} {b} {r} {compare} {c} {ps} left operand same dest cond can) = other same
 
@@ -150,7 +151,7 @@ module _ (home : Homes) (to : List Lval) (ns : List ℕ) (es : List Expr) where
         (subst (λ u. LowersFlags home (instruction (h.left ∷ []) ns u at) (operations_at (left_span h.left) r) (items_of r.acts)) (sym h.is_operand) (byte_lowers at h.left h.operand r byte h.row))
 
     pub byte_finds : (o : Option PinnedRow) → i.name ≡ name.Setcc → FindsOr o (IsByteOf home to es) (NeverByteOf home to es) → FindsOr o (IsInstructionRow home to ns es) (NeverInstruction home to ns es)
-    byte_finds o byte h = for_found o (λ r row at. byte_at at r byte row) (λ none at os is f. no_byte_named at os is byte none (named i at os is spells f)) h
+    byte_finds o byte h = for_found o (λ r row at. byte_at at r byte row) (λ none at os is f. no_byte_named at os is byte none (named home ns to es i at os is spells f)) h
 
     row_at : (at : Span) (r : PinnedRow) → IsSized home i to es r → LowersFlags home (instruction to ns es at) (operations_at (begins_at to at) r) (items_of r.acts)
     row_at at r h =
@@ -158,4 +159,4 @@ module _ (home : Homes) (to : List Lval) (ns : List ℕ) (es : List Expr) where
         instructions spells h.is_size (form_back home h.size i.name to f.rest es r.flags (actions_of r.acts) (items_of r.acts) f.led f.row) h.can
 
     pub sized_finds : (o : Option PinnedRow) → (i.name ≡ name.Setcc → ⊥) → FindsOr o (IsSized home i to es) (NeverSized home i to es) → FindsOr o (IsInstructionRow home to ns es) (NeverInstruction home to ns es)
-    sized_finds o other h = for_found o (λ r row at. row_at at r row) (λ none at os is f. no_row_named at os is other none (named i at os is spells f)) h
+    sized_finds o other h = for_found o (λ r row at. row_at at r row) (λ none at os is f. no_row_named at os is other none (named home ns to es i at os is spells f)) h

@@ -26,7 +26,7 @@ use Rattle.jz_row_operations.specs.Table.{is_imm}
 use Rattle.jz_row_operations.specs.Lowering.{numbers_from, HasRow}
 use Rattle.jz_one_row.proofs.Operands.{one_arg}
 use Rattle.jz_flag_rows.specs.Results.{IsPinned}
-use Rattle.jz_flag_rows.specs.Wide.{IsLong, is_apart, unless_later, three_from, divide_two_code, divide_two_shown}
+use Rattle.jz_flag_rows.specs.Wide.{IsLong, is_apart, three_from, divide_two_code, divide_two_shown}
 use Rattle.jz_one_flag_row.specs.Forms.{IsLongDivision}
 use Rattle.jz_one_flag_row.proofs.OneParts.{one_pinned}
 use Rattle.jz_operands.specs.declared.operands.Operand.{Operand}
@@ -92,15 +92,14 @@ module _ (home : Homes) (z : Size) (q r : Lval) (hi lo by : Expr) where
   pub division_operands : NeverThree home z hi lo by → Never
   division_operands none acts items h can =
       let c = subst (All CanEncode) h.code can in
-      let kept = unless_later h.quotient h.remainder in
-      let low = action.Mov z (low_at kept) h.y in
+      let low = action.Mov z (low_at h.quotient) h.y in
       let high = action.Mov z (high_at h.remainder) h.x in
-      let last = action.Wide wide.Div z kept h.remainder h.w in
+      let last = action.Wide wide.Div z h.quotient h.remainder h.w in
       let rest = All-tail CanEncode low (high ∷ last ∷ []) c in
       none h.x h.y h.w h.p h.s h.u h.high h.low h.by h.no_number
       (mov_fields z (high_at h.remainder) h.x (All-head CanEncode high (last ∷ []) rest)).1
-      (mov_fields z (low_at kept) h.y (All-head CanEncode low (high ∷ last ∷ []) c)).1
-      (wide_fields wide.Div z kept h.remainder h.w (All-head CanEncode last [] (All-tail CanEncode high (last ∷ []) rest)))
+      (mov_fields z (low_at h.quotient) h.y (All-head CanEncode low (high ∷ last ∷ []) c)).1
+      (wide_fields wide.Div z h.quotient h.remainder h.w (All-head CanEncode last [] (All-tail CanEncode high (last ∷ []) rest)))
 
   both_true : (a b c : Bool) → a ≡ true → b ≡ true → c ≡ true → ((a && b) && c) ≡ true
   both_true true true true e f g = refl
@@ -118,7 +117,7 @@ module _ (home : Homes) (z : Size) (q r : Lval) (hi lo by : Expr) where
         clash (divided_apart w.first w.second t.high.arg t.by.arg) none
         ((λ i. divided_apart (d i) (e i) (x.0 i) (b.0 i)) ∙ both_true (is_apart h.quotient h.x) (is_apart h.quotient h.w) (is_apart h.remainder h.w) h.high_apart h.quotient_apart h.remainder_apart)
 
-    pub division_is : (s : Acts) → divided_apart w.first w.second t.high.arg t.by.arg ≡ true → actions_of s ≡ divide_two_code z (unless_later w.first w.second) w.second t.high.arg t.low.arg t.by.arg
+    pub division_is : (s : Acts) → divided_apart w.first w.second t.high.arg t.by.arg ≡ true → actions_of s ≡ divide_two_code z w.first w.second t.high.arg t.low.arg t.by.arg
         → items_of s ≡ divide_two_shown (leaks_of t.high.leaks) (leaks_of t.low.leaks) (leaks_of t.by.leaks) → IsLongDivision home z q r hi lo by (actions_of s) (items_of s)
     division_is s apart code shown =
         let k = and_parts (is_apart w.first t.high.arg && is_apart w.first t.by.arg) (is_apart w.second t.by.arg) apart in

@@ -16,7 +16,7 @@ ghost use Rattle.jz_instructions.specs.InnerRows.{AreThree, NeverThree, divided_
 use crate::shaping::TwoThree;
 use jz_operands::{Homes, Operand, operand_of};
 use jz_operations::{Action, Arg, Pinned};
-use jz_pinned_rows::{Acts, acts_in, is_apart, is_long, numbers_behind, unless_later, word_result};
+use jz_pinned_rows::{Acts, acts_in, is_apart, is_long, numbers_behind, word_result};
 use jz_rows::{Act, Shown, Target, count, is_imm, product_row, told};
 use jz_tree::{Expr, Lval, Size};
 use x64_insn::{Reg, Wide};
@@ -144,9 +144,5 @@ pub(crate) fn division_row(homes: &Homes, size: Size, parts: &TwoThree<'_>) -> O
     if !are_apart(words, operands) {
         return None;
     }
-    let kept = Words {
-        first: unless_later(words.first, words.second),
-        second: words.second,
-    };
-    Some(divided(size, kept, operands))
+    Some(divided(size, words, operands))
 }

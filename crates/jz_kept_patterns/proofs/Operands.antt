@@ -74,22 +74,22 @@ no_pinned true z e = false≢true e
 no_pinned false z e = false≢true e
 
 module _ (t : Turn) (answers : Answers) (l : Lval) (e b : Expr) where
-  abbrev Meets : Lval → Type 0
-  Meets d = KeepsMeeting (place_of d) (meets (pulled t answers) (place_of d) (tree_of e)) (meets answers (turned_place t (place_of d)) (turned t (tree_of e)))
+  abbrev MeetsSo : Lval → Type 0
+  MeetsSo d = KeepsMeeting (place_of d) (meets (pulled t answers) (place_of d) (tree_of e)) (meets answers (turned_place t (place_of d)) (turned t (tree_of e)))
 
-  named_apart : (d : Lval) → IsNamed (place_of d) → place_of l ≡ turned_place t (place_of d) → tree_of b ≡ turned t (tree_of e) → Meets d
+  named_apart : (d : Lval) → IsNamed (place_of d) → place_of l ≡ turned_place t (place_of d) → tree_of b ≡ turned t (tree_of e) → MeetsSo d
       → is_apart (operand_of (pulled t answers) d e) ≡ true → is_apart (operand_of answers l b) ≡ true
   named_apart d n p q k h =
       ap is_apart_from (meeting_is answers l b ∙ ap₂ (λ x y. meets answers x y) p q) ∙ k.apart n (sym (ap is_apart_from (meeting_is (pulled t answers) d e)) ∙ h)
 
-  pinned_apart : (d : Lval) → place_of l ≡ turned_place t (place_of d) → tree_of b ≡ turned t (tree_of e) → Meets d
+  pinned_apart : (d : Lval) → place_of l ≡ turned_place t (place_of d) → tree_of b ≡ turned t (tree_of e) → MeetsSo d
       → is_pinned (dest_of d) ≡ true → is_apart (operand_of (pulled t answers) d e) ≡ true → is_apart (operand_of answers l b) ≡ true
   pinned_apart (lval.Skip at) p q k n h = ap is_apart_from (meeting_is answers l b ∙ ap₂ (λ x y. meets answers x y) p q)
   pinned_apart (lval.Var v) p q k n h = named_apart (lval.Var v) tt p q k h
   pinned_apart (lval.Cell v i) p q k n h = named_apart (lval.Cell v i) tt p q k h
   pinned_apart (lval.Store a) p q k n h = absurd (no_pinned (is_address (terms_of (out-Access a).at)) (out-Access a).size n)
 
-  pub beside_by : (d : Lval) → KeepsClass (class_of e) (class_of b) → place_of l ≡ turned_place t (place_of d) → tree_of b ≡ turned t (tree_of e) → Meets d → KeptBeside d (operand_of (pulled t answers) d e) (operand_of answers l b)
+  pub beside_by : (d : Lval) → KeepsClass (class_of e) (class_of b) → place_of l ≡ turned_place t (place_of d) → tree_of b ≡ turned t (tree_of e) → MeetsSo d → KeptBeside d (operand_of (pulled t answers) d e) (operand_of answers l b)
   beside_by d c p q k = record { operand = operand_by t answers d l e b c p q k; apart = pinned_apart d p q k }
 
 pub itself_kept : (d l : Lval) → KeepsClass (dest_of d) (dest_of l) → KeptOperand (is_r (dest_of d)) (itself d) (itself l)

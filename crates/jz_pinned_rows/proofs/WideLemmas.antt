@@ -25,7 +25,7 @@ use Rattle.jz_row_operations.specs.Table.{is_imm}
 use Rattle.jz_row_operations.specs.Lowering.{numbers_from}
 use Rattle.jz_one_row.proofs.Operands.{one_arg}
 use Rattle.jz_flag_rows.specs.Results.{IsPinned}
-use Rattle.jz_flag_rows.specs.Wide.{IsLong, is_pinned, is_apart, unless_later, wide_code, wide_shown}
+use Rattle.jz_flag_rows.specs.Wide.{IsLong, is_pinned, is_apart, wide_code, wide_shown}
 use Rattle.jz_one_flag_row.specs.Forms.{IsWideProduct}
 use Rattle.jz_one_flag_row.proofs.OneParts.{one_pinned}
 use Rattle.jz_operands.specs.TableHomes.{leaks_of}
@@ -160,23 +160,23 @@ module _ (home : Homes) (z : Size) (hi lo : Lval) (a b : Expr) where
   module _ (k l : Option Pinned) (high : IsPinned home z hi k) (low : IsPinned home z lo l) where
     pub product_words : NeverWords home z a b → Never
     product_words none acts items h can =
-        let f = product_fields z (unless_later h.upper h.lower) h.lower h.x h.y acts h.code can in
+        let f = product_fields z h.upper h.lower h.x h.y acts h.code can in
         none h.x h.y h.p h.q h.first h.second h.no_number f.0 f.1
 
     module _ (t : Operands) (both : AreWords home z a b t) where
       no_code : (acts : List Action) → ◌≡◌ {A = Option (List Action)} None (Some acts) → ⊥
       no_code acts e = absurd cc
 
-      pub product_uncoded : (j : Option Pinned) → j ≡ unless_later k l → wide_code z j l t.first.arg t.second.arg ≡ None → Never
-      product_uncoded j is none acts items h can =
+      pub product_uncoded : wide_code z k l t.first.arg t.second.arg ≡ None → Never
+      product_uncoded none acts items h can =
           let e = one_pinned home z hi k h.upper high h.high in
           let f = one_pinned home z lo l h.lower low h.low in
           let m = one_arg home z a t.first.arg h.x (leaks_of t.first.leaks) h.p both.both.first h.first in
           let n = one_arg home z b t.second.arg h.y (leaks_of t.second.leaks) h.q both.both.second h.second in
-          no_code acts (sym none ∙ ap (λ u. wide_code z u l t.first.arg t.second.arg) is ∙ (λ i. wide_code z (unless_later (e i) (f i)) (f i) (m.0 i) (n.0 i)) ∙ h.code)
+          no_code acts (sym none ∙ (λ i. wide_code z (e i) (f i) (m.0 i) (n.0 i)) ∙ h.code)
 
-      pub product_is : (j : Option Pinned) → j ≡ unless_later k l → IsLong z → (r : Acts) → IsMultiplied z j l t r → IsWideProduct home z hi lo a b (actions_of r) (items_of r)
-      product_is j is long r m = record {
+      pub product_is : IsLong z → (r : Acts) → IsMultiplied z k l t r → IsWideProduct home z hi lo a b (actions_of r) (items_of r)
+      product_is long r m = record {
         upper = k;
         lower = l;
         x = t.first.arg;
@@ -189,6 +189,6 @@ module _ (home : Homes) (z : Size) (hi lo : Lval) (a b : Expr) where
         first = both.both.first;
         second = both.both.second;
         no_number = both.no_number;
-        code = ap (λ u. wide_code z u l t.first.arg t.second.arg) (sym is) ∙ m.actions;
+        code = m.actions;
         shown = m.items;
       }

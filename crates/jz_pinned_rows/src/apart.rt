@@ -26,22 +26,3 @@ pub fn is_apart(pinned: Option<Pinned>, operand: Arg) -> bool
         Some(pinned) => is_free(Arg::Var(pinned.variable), operand),
     }
 }
-
-/// A result's variable, unless a later one of the same statement is that variable too.
-pub fn unless_later(one: Option<Pinned>, later: Option<Pinned>) -> Option<Pinned>
-    ensures { result ≡ wide.unless_later one later }
-{
-    match one {
-        None => None,
-        Some(first) => match later {
-            None => one,
-            Some(other) => {
-                if first.variable == other.variable {
-                    None
-                } else {
-                    one
-                }
-            }
-        },
-    }
-}

@@ -12,7 +12,7 @@ mod results;
 mod row;
 mod setting;
 
-pub use apart::{is_apart, unless_later};
+pub use apart::is_apart;
 pub use choosing::{FlagTest, flag_test};
 pub use dividing::numbers_behind;
 pub use multiplying::product_row;

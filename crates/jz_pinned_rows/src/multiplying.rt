@@ -10,7 +10,7 @@ ghost use Rattle.jz_one_flag_row.specs.Forms.{IsWideProduct};
 ghost use Rattle.jz_pinned_rows.specs.Rows.{FindsActs};
 ghost use Rattle.jz_pinned_rows.specs.InnerRows.{IsMultiplied};
 
-use crate::apart::{is_apart, is_pinned, unless_later};
+use crate::apart::{is_apart, is_pinned};
 use crate::parts::{Operands, is_long, words_of};
 use crate::results::word_result;
 use crate::row::Acts;
@@ -103,5 +103,5 @@ pub fn product_row(
     let upper = word_result(homes, size, high)?;
     let lower = word_result(homes, size, low)?;
     let both = words_of(homes, size, first, second)?;
-    multiplied(size, unless_later(upper, lower), lower, both)
+    multiplied(size, upper, lower, both)
 }

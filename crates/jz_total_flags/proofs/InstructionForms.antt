@@ -1,5 +1,5 @@
 -- Each form of an intrinsic has actions that can be encoded.
-use Rattle.std.proofs.Common.{◌≡◌, ◌<◌, ℕ, Bool, true, false, ◌&&◌, not, List, [], ◌∷◌, ◌++◌, Option, Some, None, refl, sym, ap, ◌∙◌, subst, ℤ, pos}
+use Rattle.std.proofs.Common.{◌≡◌, inl, inr, ◌<◌, ℕ, Bool, true, false, ◌&&◌, not, List, [], ◌∷◌, ◌++◌, Option, Some, None, refl, sym, ap, ◌∙◌, subst, ℤ, pos}
 use Rattle.std.specs.Prelude.{◌⊎◌, All}
 use Rattle.std.proofs.lemmas.Bool.{and_parts, false≢true}
 use Rattle.std.proofs.lemmas.List.Elements.{All-nil, All-cons, All-append}
@@ -54,6 +54,10 @@ bswap_spelled d S16 v w = absurd w
 bswap_spelled d S32 v w = refl
 bswap_spelled d S64 v w = refl
 
+both_true : (a b : Bool) → a ≡ true → b ≡ true → (a && b) ≡ true
+both_true true b e f = f
+both_true false b e f = absurd (false≢true e)
+
 -- CMP and TEST with a second operand that is no access
 compared_spelled : (d : ℕ) (op : Alu) (z : Size) (b y : Arg) → is_place b ≡ true → is_kept y ≡ false → fit_at d z b ≡ true → fit_at d z y ≡ true → is_spelled_at d (action.Alu op z b y None) ≡ true
 unfolding is_spelled
@@ -61,18 +65,10 @@ compared_spelled d op z (arg.Var v) (arg.Var w) p k f g = refl
 compared_spelled d op z (arg.Var v) (arg.Imm i) p k f g = g
 compared_spelled d op z (arg.Var v) (arg.At r q) p k f g = refl
 compared_spelled d op z (arg.Mem m) (arg.Var w) p k f g = f
-compared_spelled d op z (arg.Mem m) (arg.Imm i) p k f g = both f g
-  where
-    both : {a b : Bool} → a ≡ true → b ≡ true → (a && b) ≡ true
-    both {true} {b} e f = f
-    both {false} {b} e f = absurd (false≢true e)
+compared_spelled d op z (arg.Mem m) (arg.Imm i) p k f g = both_true _ _ f g
 compared_spelled d op z (arg.Mem m) (arg.At r q) p k f g = f
 compared_spelled d op z (arg.Cell c) (arg.Var w) p k f g = f
-compared_spelled d op z (arg.Cell c) (arg.Imm i) p k f g = both f g
-  where
-    both : {a b : Bool} → a ≡ true → b ≡ true → (a && b) ≡ true
-    both {true} {b} e f = f
-    both {false} {b} e f = absurd (false≢true e)
+compared_spelled d op z (arg.Cell c) (arg.Imm i) p k f g = both_true _ _ f g
 compared_spelled d op z (arg.Cell c) (arg.At r q) p k f g = f
 compared_spelled d op z b (arg.Mem m) p k f g = absurd (false≢true (sym k))
 compared_spelled d op z b (arg.Cell c) p k f g = absurd (false≢true (sym k))

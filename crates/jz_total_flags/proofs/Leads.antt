@@ -211,7 +211,7 @@ value_sum d (Expr-F.Not a at) h = absurd h
 value_sum d (Expr-F.Cast z s a at) h = absurd h
 
 pub update_sum : (d : Lval) (o : BinOp) (e : Expr) (l : Layer) → IsSumValue (update_layer (whichever A) d o e l) → adds o ≡ true
-update_sum d o e (Expr-F.Bin p a b at) h = by_test (carries o p) refl (is_flag (class_of b)) h
+update_sum d o e (Expr-F.Bin p a b at) h = by_test (carries o p) (is_flag (class_of b)) refl h
   where
     by_test : (t s : Bool) → carries o p ≡ t → IsSumValue (if t && s then values.Carry o (itself d) (operand_of A d a) else values.Two o (itself d) (operand_of A d e)) → adds o ≡ true
     by_test true true k h = (carries_add o p k).0
@@ -231,7 +231,7 @@ whole_sum : (o : BinOp) (a b : Expr) (at : Span) → adds o ≡ true → IsSumLa
 whole_sum o a b at h = subst IsSumLayer (sym (out_bin o a b at)) (sum_layer o a b at h)
 
 pub updated_sum : (o : BinOp) (r e : Expr) (here : Span) (l : Layer) → adds o ≡ true → IsSumLayer (out-Expr (updated_layer o r e here l))
-updated_sum o r e here (Expr-F.Bin p u v at) h = by_test (carries o p) refl (assignments.is_flag v)
+updated_sum o r e here (Expr-F.Bin p u v at) h = by_test (carries o p) (assignments.is_flag v) refl
   where
     by_test : (t s : Bool) → carries o p ≡ t → IsSumLayer (out-Expr (if t && s then expr.Bin p (expr.Bin o r u here) v here else expr.Bin o r e here))
     by_test true true k = whole_sum p (expr.Bin o r u here) v here (carries_add o p k).1

@@ -36,7 +36,7 @@ use Rattle.jz_homes.specs.Homes.{Homes, IsHoming}
 use Rattle.jz_homes.specs.Operands.{Leaks, IsArg}
 use Rattle.jz_row_operations.specs.Table.{same_arg, is_imm, is_free, brought}
 use Rattle.jz_flag_rows.specs.Results.{IsPinned, no_word, a_word}
-use Rattle.jz_flag_rows.specs.Wide.{is_pinned, is_apart, unless_later, wide_code}
+use Rattle.jz_flag_rows.specs.Wide.{IsLong, is_pinned, is_apart, unless_later, wide_code}
 use Rattle.jz_total_rows.specs.Expanded as expanded
 use Rattle.jz_total_rows.specs.Expanded.{HasHome, IsExpandedLeft}
 use Rattle.jz_total_rows.proofs.Fits.{is_place, Fits}
@@ -121,7 +121,7 @@ pub record WideMade (z : Size) (h l : Option Pinned) (x y : Arg) : Type 0 where
   pub is : wide_code z h l x y ≡ Some acts
   pub can : All CanEncode acts
 
-module _ (z : Size) (h l : Option Pinned) (x y : Arg) where
+module _ (z : Size) (long : IsLong z) (h l : Option Pinned) (x y : Arg) where
   abbrev once : Arg → List Action
   once w = action.Wide wide.Mul z l h w ∷ []
 
@@ -129,7 +129,7 @@ module _ (z : Size) (h l : Option Pinned) (x y : Arg) where
   copied = action.Mov z (low_at l) x ∷ action.Wide wide.Mul z l h y ∷ []
 
   once_encoded : (w : Arg) → is_place w ≡ true → Fits z w → All CanEncode (once w)
-  once_encoded w p f = All-cons CanEncode (action.Wide wide.Mul z l h w) [] (encode (action.Wide wide.Mul z l h w) (λ c u. wide_spelled c wide.Mul z l h w p (f c u))) (All-nil CanEncode)
+  once_encoded w p f = All-cons CanEncode (action.Wide wide.Mul z l h w) [] (encode (action.Wide wide.Mul z l h w) (λ c u. wide_spelled c wide.Mul z l h w long p (f c u))) (All-nil CanEncode)
 
   made_by : (s t u : Bool) → is_pinned l x ≡ s → (not (is_imm x) && is_pinned l y) ≡ t → is_apart l y ≡ u → Fits z x → is_place y ≡ true → Fits z y → (t ≡ true → is_place x ≡ true) → (s ≡ false → t ≡ false → u ≡ true) → WideMade z h l x y
   made_by true t u e f g fx py fy px far =
@@ -192,15 +192,15 @@ pub record Low (home : Homes) (z : Size) (l : Lval) (h : Option Pinned) (x y : A
   pub is : IsPinned home z l kept
   pub wide : WideMade z (unless_later h kept) kept x y
 
-pub low_skip : (home : Homes) (z : Size) (l : Lval) (h : Option Pinned) (x y : Arg) → IsExpandedLeft home l → is_skip (dest_of l) ≡ true → Fits z x → is_place y ≡ true → Fits z y → Low home z l h x y
-low_skip home z l h x y e s fx py fy =
+pub low_skip : (home : Homes) (z : Size) → IsLong z → (l : Lval) (h : Option Pinned) (x y : Arg) → IsExpandedLeft home l → is_skip (dest_of l) ≡ true → Fits z x → is_place y ≡ true → Fits z y → Low home z l h x y
+low_skip home z long l h x y e s fx py fy =
     let k = skip_is home l e s in
     subst (λ l. Low home z l h x y) (sym k.1) (
-    record { kept = None; is = no_word k.0; wide = wide_made z (unless_later h None) None x y fx py fy (λ i. absurd (false≢true (and_parts (not (is_imm x)) false i).1)) (λ f g. refl) }
+    record { kept = None; is = no_word k.0; wide = wide_made z long (unless_later h None) None x y fx py fy (λ i. absurd (false≢true (and_parts (not (is_imm x)) false i).1)) (λ f g. refl) }
     )
 
-pub low_register : (home : Homes) (z : Size) (l : Lval) (h : Option Pinned) (x y : Arg) (D : LeftAs home z l) (oa ob : Operand) → is_r (dest_of l) ≡ true → Fits z D.arg' → Beside z D.arg' x oa → Beside z D.arg' y ob → is_rm ob.class ≡ true → computes (not (is_i oa.class)) (dest_of l) oa ob ≡ true → Low home z l h x y
-low_register home z l h x y D oa ob r fd m n rm e =
+pub low_register : (home : Homes) (z : Size) → IsLong z → (l : Lval) (h : Option Pinned) (x y : Arg) (D : LeftAs home z l) (oa ob : Operand) → is_r (dest_of l) ≡ true → Fits z D.arg' → Beside z D.arg' x oa → Beside z D.arg' y ob → is_rm ob.class ≡ true → computes (not (is_i oa.class)) (dest_of l) oa ob ≡ true → Low home z l h x y
+low_register home z long l h x y D oa ob r fd m n rm e =
     let g = left_register home z l D r in
     let k = pin_of g in
     let B = brings (not (is_imm x)) z D.arg' x y (dest_of l) oa ob D.stands fd m n (sym (ap (λ w. computes (not w) (dest_of l) oa ob) (stands_i m.stands)) ∙ e) in
@@ -209,6 +209,6 @@ low_register home z l h x y D oa ob r fd m n rm e =
       kept = Some k;
       is = register_pinned home l z D.arg' g;
       wide =
-          wide_made z (unless_later h (Some k)) (Some k) x y m.fits (stands_place n.stands rm) n.fits (λ i. not_number m.stands (and_parts (not (is_imm x)) (is_pinned (Some k) y) i).0)
+          wide_made z long (unless_later h (Some k)) (Some k) x y m.fits (stands_place n.stands rm) n.fits (λ i. not_number m.stands (and_parts (not (is_imm x)) (is_pinned (Some k) y) i).0)
           (λ f g. far_by k z x y (B'.before, B'.second) B'.is f g);
     }

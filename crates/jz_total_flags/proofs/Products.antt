@@ -225,15 +225,15 @@ in_register l c m (inl s) = absurd (skip_no_rmi l s m)
 in_register l c m (inr r) = and_parts (is_r l) c r
 
 -- the low word, whose class is that of `_` or of a register
-pub low_there : (frame : Frame) (home : Homes) (homing : IsHoming frame home) (l : Lval) (xl : IsExpandedLeft home l) (z : Size) (tl : Holds (place.word z) l) → left_operand (left_access l) ≡ None → (a b : Expr) (OA : OperandAs home z a) (OB : OperandAs home z b) → Fits z OA.arg' → Fits z OB.arg' → (h : Option Pinned)
+pub low_there : (frame : Frame) (home : Homes) (homing : IsHoming frame home) (l : Lval) (xl : IsExpandedLeft home l) (z : Size) → IsLong z → (tl : Holds (place.word z) l) → left_operand (left_access l) ≡ None → (a b : Expr) (OA : OperandAs home z a) (OB : OperandAs home z b) → Fits z OA.arg' → Fits z OB.arg' → (h : Option Pinned)
     → is_rm (class_of b) ≡ true → (is_skip (dest_of l) ≡ true) ⊎ ((is_r (dest_of l) && computes (not (is_i (class_of a))) (dest_of l) (operand_of A l a) (operand_of A l b)) ≡ true) → Low home z l h OA.arg' OB.arg'
-low_there frame home homing l xl z tl last a b OA OB fa fb h rb (inl s) = low_skip home z l h OA.arg' OB.arg' xl s fa (stands_place OB.stands rb) fb
-low_there frame home homing l xl z tl last a b OA OB fa fb h rb (inr c) =
+low_there frame home homing l xl z long tl last a b OA OB fa fb h rb (inl s) = low_skip home z long l h OA.arg' OB.arg' xl s fa (stands_place OB.stands rb) fb
+low_there frame home homing l xl z long tl last a b OA OB fa fb h rb (inr c) =
     let r = and_parts (is_r (dest_of l)) (computes (not (is_i (class_of a))) (dest_of l) (operand_of A l a) (operand_of A l b)) c in
     let rd = or_left (is_r (dest_of l)) (is_m (dest_of l)) r.0 in
     let D = left_there home z l xl tl rd in
     let fd = D.fits last in
-    low_register home z l h OA.arg' OB.arg' D (operand_of A l a) (operand_of A l b) r.0 fd (beside_operand frame home homing z l D rd fd a OA fa) (beside_operand frame home homing z l D rd fd b OB fb) rb r.1
+    low_register home z long l h OA.arg' OB.arg' D (operand_of A l a) (operand_of A l b) r.0 fd (beside_operand frame home homing z l D rd fd a OA fa) (beside_operand frame home homing z l D rd fd b OB fb) rb r.1
 
 and_false : (a b : Bool) → b ≡ false → (a && b) ≡ false
 and_false true b i = i
@@ -265,7 +265,7 @@ module _ (frame : Frame) (home : Homes) (homing : IsHoming frame home) (h l : Lv
       let fa = OA.fits None kept.0 in
       let fb = OB.fits None kept.1 in
       let long = long_of (product_size None (dest_of h) (dest_of l) oa ob) z (four_sized (class_size (dest_of h)) (class_size (dest_of l)) (class_size (class_of a)) (class_size (class_of b)) z H.sized L.sized OA.sized OB.sized) row.long in
-      let low = low_there frame home homing l xl z tl f.last a b OA OB fa fb H.kept row.second row.low in
+      let low = low_there frame home homing l xl z long tl f.last a b OA OB fa fb H.kept row.second row.low in
       made None e a b here at H OA.arg' OB.arg' OA.leaks OB.leaks refl size long OA.is OB.is (not_imm OB.arg' (place_not_imm OB.arg' (stands_place OB.stands row.second))) low
     where
       sizes_by : (H : PinnedLeft home z h) (L : PinnedLeft home z l) → Wants h (place.word z) ⊎ (Wants l (place.word z) ⊎ Says (value (expr.Bin op.Mul a b here)) z) → (left_size h ≡ Some z) ⊎ ((left_size l ≡ Some z) ⊎ (own_size (expr.Bin op.Mul a b here) ≡ Some z))
@@ -292,7 +292,7 @@ module _ (frame : Frame) (home : Homes) (homing : IsHoming frame home) (h l : Lv
       let fb = OB.fits None (subst (λ w. (seen (record { place = None; size = w }) e).operand ≡ None) (sizes (own_size e)) (first_none _ f.right)) in
       let long = long_of (product_size None (dest_of h) (dest_of l) (itself l) ob) z (four_sized (class_size (dest_of h)) (class_size (dest_of l)) (class_size (dest_of l)) (class_size (class_of e)) z H.sized D.sized D.sized OB.sized) row.long in
       let whole = ap (λ w. updated w op.Mul e (left_span l)) g.1 ∙ ap (λ w. Some w) (times_updated g.0 e (left_span l) (out-Expr e)) in
-      let low = low_register home z l H.kept D.arg' OB.arg' D (itself l) ob r.0 fd (beside_itself frame home homing z l D rd fd) (beside_operand frame home homing z l D rd fd e OB fb) row.second r.1 in
+      let low = low_register home z long l H.kept D.arg' OB.arg' D (itself l) ob r.0 fd (beside_itself frame home homing z l D rd fd) (beside_operand frame home homing z l D rd fd e OB fb) row.second r.1 in
       made (Some op.Mul) e g.0 e (left_span l) at H D.arg' OB.arg' D.leaks OB.leaks whole (sizes (own_size (expr.Bin op.Mul g.0 e (left_span l)))) long (left_read home z l D.arg' D.leaks g.0 D.is g.1) OB.is
       (not_imm OB.arg' (place_not_imm OB.arg' (stands_place OB.stands row.second))) low
 

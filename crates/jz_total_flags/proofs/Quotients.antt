@@ -142,7 +142,7 @@ encoded o w z k x y long fx py fy =
     (encode (action.Mov z (low_at l) x) (λ c u. to_register_spelled c z reg.Rax l x (fx c u)))
     (encode (action.Sign z l h) (λ c u. sign_spelled c z l h long))
     (encode (action.Mov z (high_at h) (arg.Imm (pos 0))) (λ c u. to_register_spelled c z reg.Rdx h (arg.Imm (pos 0)) (zero_fits z c long)))
-    (encode (action.Wide w z l h y) (λ c u. wide_spelled c w z l h y py (fy c u)))
+    (encode (action.Wide w z l h y) (λ c u. wide_spelled c w z l h y long py (fy c u)))
 
 module _ (frame : Frame) (home : Homes) (homing : IsHoming frame home) (z : Size) (d : Lval) (D : LeftAs home z d) (rd : is_rm (dest_of d) ≡ true) (fd : Fits z D.arg') where
   -- a: the first operand

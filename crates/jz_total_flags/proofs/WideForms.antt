@@ -22,7 +22,7 @@ use Rattle.jz_operations.specs.declared.operation.Action.TheVariants as action
 use Rattle.jz_operations.specs.Rows.{Frame, low_at, high_at}
 use Rattle.jz_encodable.specs.Encodable.{CanEncode}
 use Rattle.jz_homes.specs.Homes.{Homes, IsHoming}
-use Rattle.jz_flag_rows.specs.Wide.{unless_later, divide_two_code}
+use Rattle.jz_flag_rows.specs.Wide.{IsLong, unless_later, divide_two_code}
 use Rattle.jz_flag_rows.proofs.Codes.{divide_two_all}
 use Rattle.jz_one_flag_row.specs.Forms.{IsWideProduct, IsLongDivision}
 use Rattle.jz_total_rows.specs.Expanded.{IsExpandedLeft}
@@ -53,7 +53,7 @@ module _ (frame : Frame) (home : Homes) (homing : IsHoming frame home) (z : Size
       let L = pinned_left frame home homing z l xl tl (low_pinned (dest_of l) _ row.low) in
       let rest = option_or (class_size (dest_of h)) (option_or (class_size (dest_of l)) (option_or (class_size (class_of a)) (class_size (class_of b)))) in
       let long = long_of (product_size o (dest_of h) (dest_of l) oa ob) z (or_sized o rest z named (four_sized (class_size (dest_of h)) (class_size (dest_of l)) (class_size (class_of a)) (class_size (class_of b)) z H.sized L.sized OA.sized OB.sized)) row.long in
-      let low = low_there frame home homing l xl z tl last a b OA OB (OA.fits None r.kept) (OB.fits None s.kept) H.kept row.second row.low in (
+      let low = low_there frame home homing l xl z long tl last a b OA OB (OA.fits None r.kept) (OB.fits None s.kept) H.kept row.second row.low in (
         low.wide.acts,
         _,
         record {
@@ -76,12 +76,12 @@ module _ (frame : Frame) (home : Homes) (homing : IsHoming frame home) (z : Size
       )
 
   -- ---- a quotient and a remainder; h is the quotient's and l the remainder's
-  divide_encoded : (q r : Option Pinned) (x y w : Arg) → Fits z x → Fits z y → is_place w ≡ true → Fits z w → All CanEncode (divide_two_code z q r x y w)
-  divide_encoded q r x y w fx fy pw fw =
+  divide_encoded : IsLong z → (q r : Option Pinned) (x y w : Arg) → Fits z x → Fits z y → is_place w ≡ true → Fits z w → All CanEncode (divide_two_code z q r x y w)
+  divide_encoded long q r x y w fx fy pw fw =
       divide_two_all CanEncode z q r x y w
       (encode (action.Mov z (low_at q) y) (λ c u. to_register_spelled c z reg.Rax q y (fy c u)))
       (encode (action.Mov z (high_at r) x) (λ c u. to_register_spelled c z reg.Rdx r x (fx c u)))
-      (encode (action.Wide wide.Div z q r w) (λ c u. wide_spelled c wide.Div z q r w pw (fw c u)))
+      (encode (action.Wide wide.Div z q r w) (λ c u. wide_spelled c wide.Div z q r w long pw (fw c u)))
 
   pub division_there : (hi lo b : Expr) → IsReadyOperand home z hi → IsReadyOperand home z lo → IsReadyOperand home z b → table.divides_long o (dest_of h) (dest_of l) (class_of hi) (class_of lo) (class_of b) (stand_apart (whichever A) h l hi b) ≡ true → HasActs (IsLongDivision home z h l hi lo b)
   division_there hi lo b r s t m =
@@ -128,5 +128,5 @@ module _ (frame : Frame) (home : Homes) (homing : IsHoming frame home) (z : Size
           code = refl;
           shown = refl;
         },
-        divide_encoded (unless_later Q.kept R.kept) R.kept OH.arg' OL.arg' OB.arg' (OH.fits None r.kept) (OL.fits None s.kept) pb (OB.fits None t.kept),
+        divide_encoded long (unless_later Q.kept R.kept) R.kept OH.arg' OL.arg' OB.arg' (OH.fits None r.kept) (OL.fits None s.kept) pb (OB.fits None t.kept),
       )

@@ -26,5 +26,5 @@ pub returns : goal.returns
 returns c =
     let both = c.in_ok-both.both in
     for_found {A = Acts} {R = λ a. IsWideProduct (homes_of c.args.homes.now) c.args.size c.args.high.now c.args.low.now c.args.first.now c.args.second.now (actions_of a) (items_of a)} c.multiplied.result
-    (λ r m. product_is (homes_of c.args.homes.now) c.args.size c.args.high.now c.args.low.now c.args.first.now c.args.second.now c.in_ok-upper.upper c.in_ok-lower.lower c.in_ok-upper.ensures c.in_ok-lower.ensures both c.in_ok-both.ensures c.unless_later.result c.unless_later.ensures (c.is_long.ensures.yes c.if-not-is_long.false) r m)
-    (λ none. product_uncoded (homes_of c.args.homes.now) c.args.size c.args.high.now c.args.low.now c.args.first.now c.args.second.now c.in_ok-upper.upper c.in_ok-lower.lower c.in_ok-upper.ensures c.in_ok-lower.ensures both c.in_ok-both.ensures c.unless_later.result c.unless_later.ensures none) c.multiplied.ensures
+    (λ r m. product_is (homes_of c.args.homes.now) c.args.size c.args.high.now c.args.low.now c.args.first.now c.args.second.now c.in_ok-upper.upper c.in_ok-lower.lower c.in_ok-upper.ensures c.in_ok-lower.ensures both c.in_ok-both.ensures (c.is_long.ensures.yes c.if-not-is_long.false) r m)
+    (λ none. product_uncoded (homes_of c.args.homes.now) c.args.size c.args.high.now c.args.low.now c.args.first.now c.args.second.now c.in_ok-upper.upper c.in_ok-lower.lower c.in_ok-upper.ensures c.in_ok-lower.ensures both c.in_ok-both.ensures none) c.multiplied.ensures
