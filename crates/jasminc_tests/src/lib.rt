@@ -33,6 +33,8 @@ mod question_tests;
 #[cfg(test)]
 mod refusal_tests;
 #[cfg(test)]
+mod routine_tests;
+#[cfg(test)]
 mod run_tests;
 #[cfg(test)]
 mod selfrun_tests;

@@ -1,5 +1,5 @@
 -- Addresses of LEA.
-use Rattle.std.proofs.Common.{◌≡◌, ℕ, ◌≤◌, ◌%◌, ◌^◌, Bool, true, false, List, [], ◌∷◌, ◌++◌, length, Option, Some, None, refl, sym, ap, ◌∙◌, subst, arith, ℤ}
+use Rattle.std.proofs.Common.{◌≡◌, ℕ, ◌≤◌, ◌%◌, ◌^◌, Bool, false, List, [], ◌∷◌, length, Option, Some, None, refl, sym, ap, ◌∙◌, subst, arith, ℤ}
 use Rattle.std.specs.Prelude.{All, IsTrue}
 use Rattle.jz_words.specs.declared.size.Size.{Size}
 use Rattle.jz_words.specs.declared.size.Size.TheVariants.{S64}
@@ -15,7 +15,7 @@ use Rattle.jz_encodable.specs.Encodable.{CanEncode}
 use Rattle.jz_change.specs.declared.change.Numbers.{Numbers}
 use Rattle.jz_change.specs.declared.change.Numbers.TheVariants.{These}
 use Rattle.jz_homes.specs.Homes.{Homes}
-use Rattle.jz_homes.specs.Sums.{Sum, sum_of, IsSum, IsAddress, of_base, of_both, of_swapped}
+use Rattle.jz_homes.specs.Sums.{Sum, IsAddress}
 use Rattle.jz_homes.specs.Operands.{silent, IsDest}
 use Rattle.jz_flag_rows.specs.Instructions.{IsLeaAddress, with_base, a_number, an_index}
 use Rattle.jz_one_flag_row.specs.Forms.{IsLea}
@@ -23,12 +23,11 @@ use Rattle.jz_operands.specs.declared.sums.Term.{Term}
 use Rattle.jz_operands.specs.declared.sums.Terms.{Terms}
 use Rattle.jz_operands.specs.declared.sums.Found.TheVariants.{Nothing, One, Two}
 use Rattle.jz_operands.specs.SumTerms.{pair_of, pairs_of, IsWhole, NeverWhole}
-use Rattle.jz_operands.specs.Refusals.{FindsOr, is_scale, HasScale, HasFields, NeverAddress}
+use Rattle.jz_operands.specs.Refusals.{FindsOr, is_scale, HasScale, NeverAddress}
 use Rattle.jz_operands.specs.InnerSums.{IsAddressOf}
 use Rattle.jz_operands.proofs.SumLemmas.{for_found, reading_is, sum_is}
 use Rattle.jz_operands.proofs.SumRefusals.{reading_of_whole, terms_of_whole}
 use Rattle.jz_rows.proofs.FieldLemmas.{lea_fields, only_can}
-use Rattle.jz_pinned_rows.specs.Rows.{Nowhere}
 use Rattle.jz_instructions.specs.InnerRows.{IsLeaOf, NeverLea, NeverFree}
 
 -- ---- addresses without a base

@@ -1,7 +1,6 @@
 -- Rows of two operands.
-use Rattle.std.proofs.Common.{◌≡◌, ℕ, Bool, true, false, List, [], ◌∷◌, ◌++◌, Option, Some, None, refl, sym, ap, ◌∙◌, subst, append-nil}
+use Rattle.std.proofs.Common.{◌≡◌, ℕ, Bool, true, List, [], ◌∷◌, ◌++◌, Option, Some, None, refl, sym, ap, ◌∙◌, subst, append-nil}
 use Rattle.std.specs.Prelude.{All}
-use Rattle.std.proofs.lemmas.List.Elements.{All-head}
 use Rattle.jz_words.specs.declared.size.Size.{Size}
 use Rattle.x64_insn.specs.declared.types.Alu.{Alu}
 use Rattle.jz_tree.specs.declared.expr.Expr.{Expr}
@@ -11,16 +10,14 @@ use Rattle.jz_tree.specs.declared.expr.Var.{Var}
 use Rattle.jz_tree.specs.declared.stmt.Lval.{Lval}
 use Rattle.jz_meaning.specs.Values.{key_of, ref_of}
 use Rattle.jz_operations.specs.declared.operation.Pinned.{Pinned}
-use Rattle.jz_operations.specs.declared.operation.Arg.{Arg}
 use Rattle.jz_operations.specs.declared.operation.Arg.TheVariants as arg
 use Rattle.jz_operations.specs.declared.operation.Action.{Action}
 use Rattle.jz_operations.specs.declared.operation.Action.TheVariants as action
 use Rattle.jz_encodable.specs.Encodable.{CanEncode}
-use Rattle.jz_change.specs.declared.change.Number.{Number}
 use Rattle.jz_change.specs.declared.change.Numbers.{Numbers}
 use Rattle.jz_change.specs.declared.change.Numbers.TheVariants.{These}
 use Rattle.jz_homes.specs.Homes.{Homes, in_flag}
-use Rattle.jz_homes.specs.Operands.{Leaks, count_of, IsArg, IsDest}
+use Rattle.jz_homes.specs.Operands.{count_of, IsDest}
 use Rattle.jz_row_operations.specs.Rows.{NotImm}
 use Rattle.jz_row_operations.specs.Table.{is_imm, brought, behind}
 use Rattle.jz_row_operations.specs.Lowering.{numbers_from}
@@ -32,12 +29,11 @@ use Rattle.jz_one_flag_row.specs.Forms.{IsTwo, IsCarried, IsComparison}
 use Rattle.jz_one_flag_row.proofs.OneParts.{flag_of, pinned_is}
 use Rattle.jz_operands.specs.declared.operands.Operand.{Operand}
 use Rattle.jz_operands.specs.TableHomes.{leaks_of}
-use Rattle.jz_operands.specs.Refusals.{FindsOr, NeverDest}
+use Rattle.jz_operands.specs.Refusals.{NeverDest}
 use Rattle.jz_operands.proofs.SumLemmas.{for_found}
 use Rattle.jz_rows.specs.Rows.{nth_of, actions_in, items_in, item_of}
 use Rattle.jz_rows.specs.Found.{IsBrought}
 use Rattle.jz_rows.specs.declared.bringing.Brought.{Brought}
-use Rattle.jz_rows.specs.declared.row.Shown.{Shown}
 use Rattle.jz_rows.proofs.FieldLemmas.{alu_fields, two_fields, only_can}
 use Rattle.jz_pinned_rows.specs.declared.parts.Operands.{Operands}
 use Rattle.jz_pinned_rows.specs.declared.row.Acts.{Acts}

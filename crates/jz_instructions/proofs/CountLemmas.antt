@@ -1,5 +1,5 @@
 -- Shifts and rotations.
-use Rattle.std.proofs.Common.{◌≡◌, ℕ, ◌<◌, Bool, true, false, List, [], ◌∷◌, ◌++◌, Option, Some, None, refl, sym, ap, ◌∙◌, subst, ℤ, pos}
+use Rattle.std.proofs.Common.{◌≡◌, ℕ, ◌<◌, false, List, [], ◌∷◌, ◌++◌, Option, Some, None, refl, sym, ap, ◌∙◌, subst, ℤ, pos}
 use Rattle.std.specs.Prelude.{All}
 use Rattle.jz_words.specs.declared.size.Size.{Size}
 use Rattle.jz_words.specs.declared.size.Size.TheVariants.{S8}
@@ -24,7 +24,7 @@ use Rattle.jz_operations.specs.declared.operation.Action.TheVariants as action
 use Rattle.jz_encodable.specs.Encodable.{CanEncode}
 use Rattle.jz_change.specs.declared.change.Numbers.{Numbers}
 use Rattle.jz_homes.specs.Homes.{Homes, in_register}
-use Rattle.jz_homes.specs.Operands.{Leaks, IsArg, IsDest}
+use Rattle.jz_homes.specs.Operands.{IsArg, IsDest}
 use Rattle.jz_row_operations.specs.Rows.{mask_of}
 use Rattle.jz_row_operations.specs.Table.{nothing, brought, behind}
 use Rattle.jz_row_operations.specs.Lowering.{two_shown, one_shown}

@@ -1,11 +1,10 @@
 -- The flags that lead the results.
-use Rattle.std.proofs.Common.{◌≡◌, List, [], ◌∷◌, Option, Some, None, refl, sym, ap, ◌∙◌, subst}
+use Rattle.std.proofs.Common.{◌≡◌, List, ◌∷◌, Option, None, refl, sym, subst}
 use Rattle.jz_tree.specs.declared.stmt.Lval.{Lval}
 use Rattle.jz_operations.specs.declared.operation.Pinned.{Pinned}
 use Rattle.jz_operations.specs.declared.operation.Flags.{Flags}
 use Rattle.jz_homes.specs.Homes.{Homes}
 use Rattle.jz_flag_rows.specs.Results.{IsFlag, AreTwo, two, AreFour, four, AreFive, five}
-use Rattle.jz_pinned_rows.specs.Rows.{Nowhere}
 use Rattle.jz_instructions.specs.InnerRows.{NeverLed}
 
 module _ (home : Homes) where

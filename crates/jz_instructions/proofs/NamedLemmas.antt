@@ -1,5 +1,5 @@
 -- Intrinsics by their names.
-use Rattle.std.proofs.Common.{◌≡◌, ℕ, Bool, true, false, List, [], ◌∷◌, ◌++◌, Option, Some, None, refl, sym, ap, ◌∙◌, subst}
+use Rattle.std.proofs.Common.{◌≡◌, ℕ, List, [], ◌∷◌, ◌++◌, Option, Some, None, refl, sym, ◌∙◌, subst}
 use Rattle.std.specs.Prelude.{All}
 use Rattle.std.specs.Option.{option_to_list}
 use Rattle.jz_words.specs.declared.size.Size.{Size}
@@ -23,16 +23,13 @@ use Rattle.jz_operations.specs.declared.operation.Operation.{Operation}
 use Rattle.jz_operations.proofs.Somes.{same_some}
 use Rattle.jz_encodable.specs.Encodable.{CanEncode}
 use Rattle.jz_change.specs.declared.change.Numbers.{Numbers}
-use Rattle.jz_change.specs.declared.change.Numbers.TheVariants.{These}
 use Rattle.jz_homes.specs.Homes.{Homes}
 use Rattle.jz_homes.specs.Operands.{Leaks, IsDest}
 use Rattle.jz_row_operations.specs.Codes.{plain, lasting}
-use Rattle.jz_row_operations.specs.Lowering.{numbers_from}
 use Rattle.jz_flag_rows.specs.Results.{begins_at}
-use Rattle.jz_flag_rows.specs.Conditions.{IsCondition, condition_items, leaked}
+use Rattle.jz_flag_rows.specs.Conditions.{IsCondition}
 use Rattle.jz_flag_rows.specs.Instructions.{HasInstruction}
 use Rattle.jz_flag_rows.specs.Rows.{LowersFlags, instructions, sets}
-use Rattle.jz_one_flag_row.specs.Forms as forms
 use Rattle.jz_one_flag_row.specs.Forms.{Form, Lead, form_of, lead_of, AreLed, HasForm, IsFormed}
 use Rattle.jz_one_flag_row.proofs.ByForm.{by_form, form_back}
 use Rattle.jz_one_flag_row.proofs.OneForm.{one_lead, one_formed, no_byte}

@@ -1,5 +1,5 @@
 -- Products and divisions.
-use Rattle.std.proofs.Common.{◌≡◌, ℕ, ◌+◌, Bool, true, false, List, [], ◌∷◌, ◌++◌, Option, Some, None, refl, sym, ap, ◌∙◌, subst, append-nil}
+use Rattle.std.proofs.Common.{◌≡◌, ℕ, ◌+◌, Bool, true, false, List, [], ◌∷◌, ◌++◌, Option, Some, refl, sym, ap, ◌∙◌, subst, append-nil}
 use Rattle.std.specs.Prelude.{All, ◌&&◌}
 use Rattle.std.proofs.lemmas.Bool.{and_parts}
 use Rattle.std.proofs.lemmas.List.Elements.{All-head, All-tail}
@@ -10,13 +10,10 @@ use Rattle.jz_tree.specs.declared.expr.BinOp.TheVariants as op
 use Rattle.jz_tree.specs.declared.expr.Expr.{Expr}
 use Rattle.jz_tree.specs.declared.expr.Expr.TheVariants as expr
 use Rattle.jz_tree.specs.declared.stmt.Lval.{Lval}
-use Rattle.jz_operations.specs.declared.operation.Pinned.{Pinned}
-use Rattle.jz_operations.specs.declared.operation.Arg.{Arg}
 use Rattle.jz_operations.specs.declared.operation.Action.{Action}
 use Rattle.jz_operations.specs.declared.operation.Action.TheVariants as action
 use Rattle.jz_operations.specs.Rows.{low_at, high_at}
 use Rattle.jz_encodable.specs.Encodable.{CanEncode}
-use Rattle.jz_change.specs.declared.change.Number.{Number}
 use Rattle.jz_change.specs.declared.change.Numbers.{Numbers}
 use Rattle.jz_change.specs.declared.change.Numbers.TheVariants.{These}
 use Rattle.jz_homes.specs.Homes.{Homes}
@@ -31,7 +28,7 @@ use Rattle.jz_one_flag_row.specs.Forms.{IsLongDivision}
 use Rattle.jz_one_flag_row.proofs.OneParts.{one_pinned}
 use Rattle.jz_operands.specs.declared.operands.Operand.{Operand}
 use Rattle.jz_operands.specs.TableHomes.{homes_of, leaks_of}
-use Rattle.jz_operands.specs.Refusals.{HasFields, NeverArg}
+use Rattle.jz_operands.specs.Refusals.{NeverArg}
 use Rattle.jz_rows.specs.Rows as rows
 use Rattle.jz_rows.specs.Rows.{nth_of, acts_of}
 use Rattle.jz_rows.specs.Found.{Times, TimesBy, NeverBy}

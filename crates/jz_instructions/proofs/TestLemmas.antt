@@ -1,13 +1,10 @@
 -- SETcc.
-use Rattle.std.proofs.Common.{◌≡◌, ℕ, ◌+◌, Bool, true, false, List, [], ◌∷◌, ◌++◌, Option, Some, None, refl, sym, ap, ◌∙◌, subst, append-nil}
+use Rattle.std.proofs.Common.{◌≡◌, ℕ, ◌+◌, List, [], ◌∷◌, ◌++◌, Option, Some, None, refl, ap, ◌∙◌, subst}
 use Rattle.std.specs.Option.{option_to_list}
-use Rattle.jz_words.specs.declared.size.Size.{Size}
 use Rattle.jz_words.specs.declared.size.Size.TheVariants.{S8}
-use Rattle.x64_insn.specs.declared.types.Cond.{Cond}
 use Rattle.jz_tree.specs.Span.{Span}
 use Rattle.jz_tree.specs.declared.expr.Expr.{Expr}
 use Rattle.jz_tree.specs.declared.stmt.Lval.{Lval}
-use Rattle.jz_operations.specs.declared.operation.Arg.{Arg}
 use Rattle.jz_operations.specs.declared.operation.Condition.{Condition}
 use Rattle.jz_operations.specs.declared.operation.Condition.TheVariants as condition
 use Rattle.jz_operations.specs.declared.operation.Action.{Action}
@@ -15,16 +12,14 @@ use Rattle.jz_operations.specs.declared.operation.Action.TheVariants as action
 use Rattle.jz_operations.specs.declared.operation.Flags.{Flags}
 use Rattle.jz_operations.specs.declared.operation.Operation.{Operation}
 use Rattle.jz_encodable.specs.Encodable.{CanEncode}
-use Rattle.jz_change.specs.declared.change.Number.{Number}
-use Rattle.jz_change.specs.declared.change.Numbers.{Numbers}
 use Rattle.jz_change.specs.declared.change.Numbers.TheVariants.{These}
 use Rattle.jz_homes.specs.Homes.{Homes}
 use Rattle.jz_homes.specs.Operands.{Leaks, count_of, IsDest}
 use Rattle.jz_row_operations.specs.Codes.{no_flag, plain, lasting}
-use Rattle.jz_row_operations.specs.Lowering.{numbers_from, condition_shown, IsCompared}
+use Rattle.jz_row_operations.specs.Lowering.{numbers_from, condition_shown}
 use Rattle.jz_one_row.proofs.Operands.{one_dest}
 use Rattle.jz_flag_rows.specs.Conditions.{IsFlagCondition, IsCondition, by_comparison, by_flag, condition_items, leaked}
-use Rattle.jz_one_flag_row.proofs.OneStatement.{SameCondition, one_tested}
+use Rattle.jz_one_flag_row.proofs.OneStatement.{one_tested}
 use Rattle.jz_operands.specs.declared.operands.Operand.{Operand}
 use Rattle.jz_operands.specs.TableHomes.{leaks_of}
 use Rattle.jz_operands.specs.Refusals.{FindsOr, NeverDest}
@@ -35,9 +30,7 @@ use Rattle.jz_rows.specs.declared.row.Act.{Act}
 use Rattle.jz_rows.specs.declared.row.Shown.{Shown}
 use Rattle.jz_rows.proofs.FieldLemmas.{set_fields}
 use Rattle.jz_pinned_rows.specs.declared.choosing.FlagTest.{FlagTest}
-use Rattle.jz_pinned_rows.specs.declared.row.Acts.{Acts}
-use Rattle.jz_pinned_rows.specs.declared.row.PinnedRow.{PinnedRow}
-use Rattle.jz_pinned_rows.specs.Rows.{operations_at, items_of, NeverFlag}
+use Rattle.jz_pinned_rows.specs.Rows.{NeverFlag}
 use Rattle.jz_pinned_rows.proofs.WideLemmas.{shown_one}
 use Rattle.jz_instructions.specs.declared.testing.Held.{Held}
 use Rattle.jz_instructions.specs.InnerRows.{compare_at, IsHeld, NeverHeld, IsByteRow, NeverByteRow}

@@ -1,5 +1,5 @@
 -- Rows of one operand.
-use Rattle.std.proofs.Common.{◌≡◌, ℕ, Bool, true, false, List, [], ◌∷◌, ◌++◌, Option, Some, None, refl, sym, ap, ◌∙◌, subst}
+use Rattle.std.proofs.Common.{◌≡◌, ℕ, false, List, [], ◌∷◌, ◌++◌, Option, Some, None, sym, ap, ◌∙◌, subst}
 use Rattle.std.specs.Prelude.{All}
 use Rattle.jz_words.specs.declared.size.Size.{Size}
 use Rattle.x64_insn.specs.declared.types.One.{One}
@@ -12,7 +12,7 @@ use Rattle.jz_operations.specs.declared.operation.Action.TheVariants as action
 use Rattle.jz_encodable.specs.Encodable.{CanEncode}
 use Rattle.jz_change.specs.declared.change.Numbers.{Numbers}
 use Rattle.jz_homes.specs.Homes.{Homes}
-use Rattle.jz_homes.specs.Operands.{Leaks, silent, IsArg, IsDest}
+use Rattle.jz_homes.specs.Operands.{silent, IsArg, IsDest}
 use Rattle.jz_row_operations.specs.Table.{nothing, brought, behind}
 use Rattle.jz_one_row.proofs.Operands.{one_arg, one_dest}
 use Rattle.jz_flag_rows.specs.Wide.{IsLong}
@@ -20,7 +20,7 @@ use Rattle.jz_one_flag_row.specs.Forms.{IsOne, IsSwap}
 use Rattle.jz_operands.specs.declared.operands.Leaks.TheVariants.{Silent}
 use Rattle.jz_operands.specs.declared.operands.Operand.{Operand}
 use Rattle.jz_operands.specs.TableHomes.{leaks_of}
-use Rattle.jz_operands.specs.Refusals.{HasFields, NeverArg, NeverDest}
+use Rattle.jz_operands.specs.Refusals.{NeverArg, NeverDest}
 use Rattle.jz_rows.specs.Rows.{actions_in, items_in, item_of}
 use Rattle.jz_rows.specs.Found.{IsBrought}
 use Rattle.jz_rows.specs.declared.bringing.Brought.{Brought}

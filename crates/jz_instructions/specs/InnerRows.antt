@@ -1,9 +1,8 @@
 -- What the code that finds the rows of intrinsics keeps.
-use Rattle.std.specs.Prelude.{◌≡◌, ℕ, ◌≤◌, Bool, true, false, not, ◌&&◌, IsTrue, List, [], ◌∷◌, ◌++◌, All, Option, Some, None, ℤ, pos}
+use Rattle.std.specs.Prelude.{◌≡◌, ℕ, Bool, ◌&&◌, List, [], ◌∷◌, ◌++◌, All, Option, Some, None}
 use Rattle.std.specs.Option.{option_to_list}
 use Rattle.jz_words.specs.declared.size.Size.{Size}
 use Rattle.jz_words.specs.declared.size.Size.TheVariants.{S8}
-use Rattle.jz_words.specs.Readings.{fits_bytes}
 use Rattle.x64_insn.specs.declared.types.Shift.{Shift}
 use Rattle.jz_tree.specs.Span.{Span}
 use Rattle.jz_tree.specs.declared.intrinsic.Instance.{Instance}
@@ -38,7 +37,7 @@ use Rattle.jz_one_flag_row.specs.Forms.{IsFormed}
 use Rattle.jz_operands.specs.declared.operands.Leaks.TheVariants.{Silent}
 use Rattle.jz_operands.specs.declared.operands.Operand.{Operand}
 use Rattle.jz_operands.specs.TableHomes.{leaks_of}
-use Rattle.jz_operands.specs.Refusals.{HasFields, HasScale}
+use Rattle.jz_operands.specs.Refusals.{HasFields}
 use Rattle.jz_rows.specs.Rows.{items_in}
 use Rattle.jz_rows.specs.declared.row.Act.{Act}
 use Rattle.jz_pinned_rows.specs.declared.row.PinnedRow.{PinnedRow}

@@ -9,7 +9,6 @@ use Rattle.jz_tree.specs.declared.stmt.Lval.{Lval}
 use Rattle.jz_tree.specs.declared.intrinsic.Intrinsic.{Intrinsic}
 use Rattle.jz_tree.specs.declared.intrinsic.Intrinsic.TheVariants as name
 use Rattle.jz_tree.specs.declared.intrinsic.Instance.{Instance}
-use Rattle.jz_select.specs.declared.class.Operand.{Operand}
 use Rattle.jz_select.specs.declared.class.Sum.{Sum}
 use Rattle.jz_select.specs.declared.shape.Shape as rowed
 use Rattle.jz_select.specs.declared.shape.Shape.TheVariants as shapes

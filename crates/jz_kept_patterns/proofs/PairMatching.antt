@@ -1,5 +1,5 @@
 -- A row of two results that matches before matches behind.
-use Rattle.std.proofs.Common.{◌≡◌, inl, inr, Bool, true, false, ◌&&◌, ◌||◌, not, Option, Some, None, refl, sym, ap, ap₂, ◌∙◌}
+use Rattle.std.proofs.Common.{◌≡◌, inl, inr, Bool, true, false, ◌&&◌, ◌||◌, not, Option, Some, None, refl, sym, ap, ◌∙◌}
 use Rattle.std.specs.Prelude.{◌⊎◌}
 use Rattle.std.specs.Option.{option_or}
 use Rattle.std.proofs.lemmas.Bool.{false≢true, and_parts, and_from}
@@ -11,13 +11,13 @@ use Rattle.jz_select.specs.declared.shape.Value.{Value}
 use Rattle.jz_select.specs.declared.shape.Value.TheVariants as values
 use Rattle.jz_select.specs.declared.shape.Shape as rowed
 use Rattle.jz_select.specs.declared.shape.Shape.TheVariants as shapes
-use Rattle.jz_select.specs.Rows.{is_r, is_i, is_m, is_rm, is_rmi, is_skip, is_pinned, is_long, is_flag_result, is_same, is_apart, class_size, adds, joins_bits, multiplies, swaps, computes, are_inline, product_size, is_product, p2, p3, p7}
+use Rattle.jz_select.specs.Rows.{is_r, is_i, is_rm, is_rmi, is_skip, is_pinned, is_long, is_flag_result, class_size, adds, joins_bits, multiplies, swaps, computes, are_inline, product_size, is_product, p2, p3, p7}
 use Rattle.jz_row_laws.proofs.Booleans.{or_parts, or_left, or_right}
 use Rattle.jz_row_laws.proofs.Copied.{Matches}
 use Rattle.jz_kept_classes.specs.Classes.{KeepsClass}
 use Rattle.jz_kept_classes.proofs.Kept.{same_class}
 use Rattle.jz_kept_patterns.proofs.Operands.{KeptOperand, ValueMeets, m_alone, m_one, m_two, m_carry, m_inner, m_cast}
-use Rattle.jz_kept_patterns.proofs.Matching.{next, none, rmi_first, first_rmi, rmi_second, Sums, sums_kept, computes_kept}
+use Rattle.jz_kept_patterns.proofs.Matching.{next, none, rmi_first, first_rmi, Sums, sums_kept, computes_kept}
 
 module _ (x y d w l u : Class) (X : KeepsClass x y) (F : KeepsClass d l) (K : KeepsClass w u) where
   abbrev S : Value → rowed.Shape

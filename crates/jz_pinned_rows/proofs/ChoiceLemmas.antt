@@ -1,5 +1,5 @@
 -- Choices and tests of bool variables.
-use Rattle.std.proofs.Common.{◌≡◌, ℕ, Bool, true, false, List, [], ◌∷◌, ◌++◌, Option, Some, None, refl, sym, ap, ◌∙◌, subst, append-nil}
+use Rattle.std.proofs.Common.{◌≡◌, ℕ, Bool, true, List, [], ◌∷◌, ◌++◌, Option, Some, None, refl, sym, ap, ◌∙◌, subst}
 use Rattle.std.specs.Prelude.{not}
 use Rattle.jz_words.specs.declared.size.Size.{Size}
 use Rattle.jz_tree.specs.Span.{Span}
@@ -18,14 +18,13 @@ use Rattle.jz_meaning.specs.Values.{key_of, ref_of}
 use Rattle.jz_meaning.specs.Statements.{assign}
 use Rattle.jz_operations.specs.declared.operation.Arg.{Arg}
 use Rattle.jz_operations.specs.declared.operation.Condition.TheVariants as condition
-use Rattle.jz_operations.specs.declared.operation.Action.{Action}
 use Rattle.jz_operations.specs.declared.operation.Action.TheVariants as action
 use Rattle.jz_operations.specs.declared.operation.Flags.{Flags}
 use Rattle.jz_operations.specs.declared.operation.Operation.{Operation}
 use Rattle.jz_encodable.specs.Encodable.{CanEncode}
 use Rattle.jz_change.specs.declared.change.Numbers.{Numbers}
 use Rattle.jz_change.specs.declared.change.Numbers.TheVariants.{These}
-use Rattle.jz_homes.specs.Homes.{Home, Homes, in_register, in_flag}
+use Rattle.jz_homes.specs.Homes.{Homes, in_register, in_flag}
 use Rattle.jz_homes.specs.Operands.{Leaks, IsArg}
 use Rattle.jz_row_operations.specs.Codes.{no_flag, plain, lasting}
 use Rattle.jz_row_operations.specs.Rows.{IsWide, NotImm}
@@ -43,9 +42,7 @@ use Rattle.jz_operands.specs.Refusals.{NeverArg}
 use Rattle.jz_rows.specs.Rows.{nth_of}
 use Rattle.jz_rows.proofs.FieldLemmas.{cmov_fields}
 use Rattle.jz_pinned_rows.specs.declared.choosing.FlagTest.{FlagTest}
-use Rattle.jz_pinned_rows.specs.declared.row.Acts.{Acts}
-use Rattle.jz_pinned_rows.specs.declared.row.PinnedRow.{PinnedRow}
-use Rattle.jz_pinned_rows.specs.Rows.{operations_at, items_of, IsPinnedRow, NeverPinned, NeverFlag}
+use Rattle.jz_pinned_rows.specs.Rows.{IsPinnedRow, NeverPinned, NeverFlag}
 use Rattle.jz_pinned_rows.proofs.PartLemmas.{no_imm}
 use Rattle.jz_pinned_rows.proofs.WideLemmas.{shown_one}
 

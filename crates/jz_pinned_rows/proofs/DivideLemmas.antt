@@ -1,5 +1,5 @@
 -- Quotients and remainders.
-use Rattle.std.proofs.Common.{◌≡◌, ℕ, ◌+◌, Bool, true, false, List, [], ◌∷◌, ◌++◌, Option, Some, None, refl, sym, ap, ◌∙◌, subst, append-nil}
+use Rattle.std.proofs.Common.{◌≡◌, ℕ, ◌+◌, true, false, List, [], ◌∷◌, ◌++◌, Option, Some, None, sym, ap, ◌∙◌, subst, append-nil}
 use Rattle.std.specs.Prelude.{All, if◌then◌else◌}
 use Rattle.std.proofs.lemmas.List.Elements.{All-head, All-tail}
 use Rattle.jz_words.specs.declared.size.Size.{Size}
@@ -19,7 +19,6 @@ use Rattle.jz_operations.specs.declared.operation.Action.TheVariants as action
 use Rattle.jz_operations.specs.Rows.{low_at}
 use Rattle.jz_operations.proofs.Somes.{same_some}
 use Rattle.jz_encodable.specs.Encodable.{CanEncode}
-use Rattle.jz_change.specs.declared.change.Number.{Number}
 use Rattle.jz_change.specs.declared.change.Numbers.{Numbers}
 use Rattle.jz_change.specs.declared.change.Numbers.TheVariants.{These}
 use Rattle.jz_homes.specs.Homes.{Homes}
@@ -31,7 +30,7 @@ use Rattle.jz_flag_rows.specs.Results.{IsPinned}
 use Rattle.jz_flag_rows.specs.Wide.{IsLong, is_apart, is_quotient, divider, high_code, divide_code, quotient_code, three_from, divide_shown}
 use Rattle.jz_one_flag_row.proofs.OneParts.{one_pinned}
 use Rattle.jz_operands.specs.TableHomes.{leaks_of}
-use Rattle.jz_operands.specs.Refusals.{FindsOr, HasFields}
+use Rattle.jz_operands.specs.Refusals.{HasFields}
 use Rattle.jz_operands.proofs.SumLemmas.{for_found}
 use Rattle.jz_rows.specs.Rows.{nth_of}
 use Rattle.jz_rows.proofs.FieldLemmas.{mov_fields, wide_fields}

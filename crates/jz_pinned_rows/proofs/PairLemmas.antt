@@ -1,5 +1,5 @@
 -- Assignments to two left sides.
-use Rattle.std.proofs.Common.{◌≡◌, ℕ, Bool, true, false, List, [], ◌∷◌, ◌++◌, Option, Some, None, refl, sym, ap, ◌∙◌, subst, append-nil}
+use Rattle.std.proofs.Common.{◌≡◌, Bool, List, [], ◌∷◌, ◌++◌, Option, None, refl, sym, ap, ◌∙◌, subst, append-nil}
 use Rattle.std.specs.Prelude.{All}
 use Rattle.jz_words.specs.declared.size.Size.{Size}
 use Rattle.jz_tree.specs.Span.{Span}
@@ -15,11 +15,9 @@ use Rattle.jz_operations.specs.declared.operation.Pinned.{Pinned}
 use Rattle.jz_operations.specs.declared.operation.Action.{Action}
 use Rattle.jz_operations.specs.declared.operation.Flags.{Flags}
 use Rattle.jz_encodable.specs.Encodable.{CanEncode}
-use Rattle.jz_change.specs.declared.change.Number.{Number}
 use Rattle.jz_change.specs.declared.change.Numbers.{Numbers}
 use Rattle.jz_change.specs.declared.change.Numbers.TheVariants.{These}
 use Rattle.jz_homes.specs.Homes.{Homes}
-use Rattle.jz_row_operations.specs.Codes.{no_flag}
 use Rattle.jz_row_operations.specs.Lowering.{HasRow}
 use Rattle.jz_one_row.proofs.Outs.{out_bin}
 use Rattle.jz_one_row.proofs.Rows.{one_row}
@@ -27,16 +25,13 @@ use Rattle.jz_flag_rows.specs.Results.{IsFlag, carry_alone}
 use Rattle.jz_flag_rows.specs.Rows.{IsSumLayer}
 use Rattle.jz_one_flag_row.specs.Forms.{IsWideProduct}
 use Rattle.jz_one_flag_row.proofs.OneForm.{same_wide}
-use Rattle.jz_operands.specs.Refusals.{FindsOr}
 use Rattle.jz_operands.proofs.SumLemmas.{for_found}
 use Rattle.jz_rows.specs.Rows as rows
 use Rattle.jz_rows.specs.Rows.{acts_of}
 use Rattle.jz_rows.specs.declared.row.Row.{Row}
-use Rattle.jz_rows.specs.declared.row.Act.{Act}
-use Rattle.jz_rows.specs.declared.row.Shown.{Shown}
 use Rattle.jz_pinned_rows.specs.declared.row.Acts.{Acts}
 use Rattle.jz_pinned_rows.specs.declared.row.PinnedRow.{PinnedRow}
-use Rattle.jz_pinned_rows.specs.Rows.{actions_of, items_of, last_item, FindsActs, FindsRow, Nowhere}
+use Rattle.jz_pinned_rows.specs.Rows.{actions_of, items_of, FindsActs, FindsRow, Nowhere}
 use Rattle.jz_pinned_rows.specs.InnerRows.{HasCarry, IsProductOf, HasPair, a_carry, a_product, plain_row, Unflagged}
 use Rattle.jz_pinned_rows.proofs.ResultLemmas.{plain_finds}
 use Rattle.jz_pinned_rows.proofs.DivideLemmas.{bin_op, bin_left, bin_right}

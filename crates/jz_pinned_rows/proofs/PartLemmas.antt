@@ -1,5 +1,5 @@
 -- Two operands, and actions that can be encoded.
-use Rattle.std.proofs.Common.{◌≡◌, Bool, true, false, List, [], ◌∷◌, ◌++◌, refl, sym, ap, ◌∙◌, subst}
+use Rattle.std.proofs.Common.{◌≡◌, Bool, true, false, List, [], ◌∷◌, ◌++◌, refl, sym, ◌∙◌, subst}
 use Rattle.std.specs.Prelude.{All, IsTrue, ◌↔◌, ◌&&◌}
 use Rattle.std.proofs.lemmas.Bool.{and_parts}
 use Rattle.std.proofs.lemmas.List.Elements.{All-nil, All-cons, All-head, All-tail, All-append}
@@ -10,7 +10,6 @@ use Rattle.jz_operations.specs.declared.operation.Arg.TheVariants as arg
 use Rattle.jz_operations.specs.declared.operation.Action.{Action}
 use Rattle.jz_encodable.specs.Encodable.{can_encode, CanEncode}
 use Rattle.jz_homes.specs.Homes.{Homes}
-use Rattle.jz_homes.specs.Operands.{IsArg}
 use Rattle.jz_row_operations.specs.Rows.{NotImm}
 use Rattle.jz_row_operations.specs.Table.{is_imm}
 use Rattle.jz_one_row.proofs.Operands.{one_arg}

@@ -1,5 +1,5 @@
 -- Assignments without a condition.
-use Rattle.std.proofs.Common.{◌≡◌, ℕ, Bool, true, false, List, [], ◌∷◌, ◌++◌, Option, Some, None, refl, sym, ap, ◌∙◌, subst}
+use Rattle.std.proofs.Common.{◌≡◌, List, [], ◌∷◌, Option, Some, None, refl, sym, ap, ◌∙◌, subst}
 use Rattle.std.specs.Prelude.{All}
 use Rattle.std.specs.Option.{option_or}
 use Rattle.jz_words.specs.declared.size.Size.{Size}
@@ -21,12 +21,11 @@ use Rattle.jz_change.specs.declared.change.Numbers.{Numbers}
 use Rattle.jz_homes.specs.Homes.{Homes}
 use Rattle.jz_row_operations.specs.Codes.{no_flag, lasting}
 use Rattle.jz_flag_rows.specs.Results.{carry_alone}
-use Rattle.jz_flag_rows.specs.Wide.{quotient_code, divide_shown, wide_shown}
+use Rattle.jz_flag_rows.specs.Wide.{quotient_code}
 use Rattle.jz_flag_rows.specs.Rows.{LowersFlags, carry_results, wide_products, quotients}
-use Rattle.jz_pinned_rows.specs.declared.row.Acts.{Acts}
 use Rattle.jz_pinned_rows.specs.declared.row.PinnedRow.{PinnedRow}
-use Rattle.jz_pinned_rows.specs.Rows.{actions_of, items_of, FindsRow, IsPinnedRow, NeverPinned}
-use Rattle.jz_pinned_rows.specs.InnerRows.{IsQuotientOf, HasCarry, IsProductOf, HasPair, a_carry, a_product, HasPinned, IsPinnedSet, NeverPinnedSet}
+use Rattle.jz_pinned_rows.specs.Rows.{actions_of, items_of, IsPinnedRow, NeverPinned}
+use Rattle.jz_pinned_rows.specs.InnerRows.{IsQuotientOf, HasPair, a_carry, a_product, HasPinned, IsPinnedSet, NeverPinnedSet}
 use Rattle.jz_pinned_rows.proofs.DivideLemmas.{same_quotient}
 use Rattle.jz_pinned_rows.proofs.PairLemmas.{same_pair}
 

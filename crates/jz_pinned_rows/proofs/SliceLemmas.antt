@@ -1,5 +1,5 @@
 -- A slice by its length and its items.
-use Rattle.std.proofs.Common.{◌≡◌, ℕ, ◌≤◌, ◌<◌, List, [], ◌∷◌, length, get_or, refl, ap, sym, ◌∙◌, arith}
+use Rattle.std.proofs.Common.{◌≡◌, ◌≤◌, ◌<◌, List, [], ◌∷◌, length, get_or, refl, ap, sym, ◌∙◌, arith}
 
 module _ {A : Type 0} where
   pub none_is : (xs : List A) → length xs < 1 → xs ≡ []

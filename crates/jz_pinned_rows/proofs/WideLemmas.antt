@@ -1,6 +1,6 @@
 -- Products of two words.
 use Rattle.std.proofs.Common.{◌≡◌, ℕ, Bool, true, false, List, [], ◌∷◌, ◌++◌, Option, Some, None, refl, sym, ap, ◌∙◌, subst, append-nil}
-use Rattle.std.specs.Prelude.{not, ◌&&◌, if◌then◌else◌, All, IsTrue}
+use Rattle.std.specs.Prelude.{not, ◌&&◌, if◌then◌else◌, All}
 use Rattle.std.proofs.lemmas.Bool.{and_parts}
 use Rattle.std.proofs.lemmas.List.Elements.{All-head, All-tail}
 use Rattle.jz_words.specs.declared.size.Size.{Size}
@@ -19,27 +19,22 @@ use Rattle.jz_change.specs.declared.change.Number.{Number}
 use Rattle.jz_change.specs.declared.change.Numbers.{Numbers}
 use Rattle.jz_change.specs.declared.change.Numbers.TheVariants.{These}
 use Rattle.jz_homes.specs.Homes.{Homes}
-use Rattle.jz_homes.specs.Operands.{Leaks, count_of, IsArg}
-use Rattle.jz_row_operations.specs.Rows.{NotImm}
+use Rattle.jz_homes.specs.Operands.{count_of}
 use Rattle.jz_row_operations.specs.Table.{is_imm}
 use Rattle.jz_row_operations.specs.Lowering.{numbers_from}
 use Rattle.jz_one_row.proofs.Operands.{one_arg}
 use Rattle.jz_flag_rows.specs.Results.{IsPinned}
-use Rattle.jz_flag_rows.specs.Wide.{IsLong, is_pinned, is_apart, wide_code, wide_shown}
+use Rattle.jz_flag_rows.specs.Wide.{IsLong, is_pinned, is_apart, wide_code}
 use Rattle.jz_one_flag_row.specs.Forms.{IsWideProduct}
 use Rattle.jz_one_flag_row.proofs.OneParts.{one_pinned}
 use Rattle.jz_operands.specs.TableHomes.{leaks_of}
 use Rattle.jz_operands.specs.Refusals.{HasFields}
-use Rattle.jz_operands.specs.declared.operands.Operand.{Operand}
 use Rattle.jz_rows.specs.Rows.{nth_of}
-use Rattle.jz_rows.specs.declared.row.Act.{Act}
-use Rattle.jz_rows.specs.declared.row.Shown.{Shown}
 use Rattle.jz_rows.proofs.FieldLemmas.{mov_fields, wide_fields}
 use Rattle.jz_pinned_rows.specs.declared.parts.Operands.{Operands}
 use Rattle.jz_pinned_rows.specs.declared.row.Acts.{Acts}
-use Rattle.jz_pinned_rows.specs.Rows.{actions_of, items_of, last_item, FindsActs, AreWords, Nowhere, NeverWords}
+use Rattle.jz_pinned_rows.specs.Rows.{actions_of, items_of, AreWords, Nowhere, NeverWords}
 use Rattle.jz_pinned_rows.specs.InnerRows.{IsMultiplied}
-use Rattle.jz_pinned_rows.proofs.PartLemmas.{no_imm}
 
 -- ---- the three ways
 pub when_true : {A : Type 0} (b : Bool) (x y : A) → b ≡ true → (if b then x else y) ≡ x

@@ -1,9 +1,8 @@
 -- Assignments to one left side have operations.
-use Rattle.std.proofs.Common.{◌≡◌, ℕ, Bool, true, false, ◌&&◌, ◌||◌, List, [], ◌∷◌, Option, Some, None, refl, sym, ap, ◌∙◌, subst, inl, inr, if◌then◌else◌}
+use Rattle.std.proofs.Common.{◌≡◌, Bool, true, false, ◌&&◌, [], ◌∷◌, Option, Some, None, refl, sym, ap, ◌∙◌, subst, inl, inr, if◌then◌else◌}
 use Rattle.std.specs.Prelude.{◌⊎◌}
 use Rattle.std.specs.Option.{option_or}
-use Rattle.std.proofs.lemmas.Bool.{false≢true, true≢false, and_parts}
-use Rattle.jz_words.specs.declared.size.Size.{Size}
+use Rattle.std.proofs.lemmas.Bool.{false≢true, and_parts}
 use Rattle.jz_io.specs.declared.span.Span.{Span}
 use Rattle.jz_tree.specs.Operators.{divides, carries, is_shift}
 use Rattle.jz_tree.specs.declared.expr.BinOp.{BinOp}
@@ -24,7 +23,7 @@ use Rattle.jz_select.specs.Operands.{class_of, dest_of, operand_of}
 use Rattle.jz_select.specs.Rows.{is_r, is_rm, is_rmi, is_long, class_size, is_flag, p1}
 use Rattle.jz_select.specs.Shapes.{whichever, itself, has_flags, assign_of, carry_layer, value_layer, update_layer}
 use Rattle.jz_judgement.specs.Places as place
-use Rattle.jz_judgement.specs.HasType.{value, left, result, HasType, Operates, Says}
+use Rattle.jz_judgement.specs.HasType.{value, left, result, HasType, Operates}
 use Rattle.jz_row_laws.proofs.Booleans.{or_left}
 use Rattle.jz_row_laws.proofs.Copied.{Matches, no_free}
 use Rattle.jz_run_laws.proofs.Sizes.{right_type}
@@ -35,28 +34,25 @@ use Rattle.jz_limits.specs.Values.{no_numbers}
 use Rattle.jz_limits.specs.Asked.{asked_as, value_role}
 use Rattle.jz_operations.specs.Rows.{Frame}
 use Rattle.jz_homes.specs.Homes.{Homes, IsHoming}
-use Rattle.jz_row_operations.specs.Codes.{no_flag, lasting}
 use Rattle.jz_one_row.proofs.Outs.{out_num, out_bool, out_var, out_cell, out_load, out_neg, out_not, out_cast, out_bin}
-use Rattle.jz_flag_rows.specs.Wide.{quotient_code, divide_shown}
 use Rattle.jz_flag_rows.specs.Rows.{quotients}
 use Rattle.jz_every_row.specs.Statements.{by_row, by_flags}
 use Rattle.jz_total_rows.specs.Expanded.{IsExpanded, a_number, a_truth, a_variable, a_cell, a_load, a_minus, a_denial, a_cast, of_two, IsExpandedLeft}
 use Rattle.jz_total_rows.specs.Covered.{divides_layer, IsComparison}
-use Rattle.jz_total_rows.specs.Laws.{IsReadyAssign, HasRowOperations}
+use Rattle.jz_total_rows.specs.Laws.{HasRowOperations}
 use Rattle.jz_total_rows.proofs.Forms.{two_inline}
-use Rattle.jz_total_rows.proofs.Summed.{seen}
 use Rattle.jz_total_rows.proofs.Meets.{A}
 use Rattle.jz_total_rows.proofs.Operands.{of_size, typed_as, operand_there, LeftAs, left_there, left_read}
 use Rattle.jz_total_rows.proofs.Counting.{says_own}
 use Rattle.jz_total_rows.proofs.KeptLimits.{two_kept}
-use Rattle.jz_total_rows.proofs.Assigned.{none_more, either, first_by, second_by, no_shift, if_false, at_size, IsKept}
+use Rattle.jz_total_rows.proofs.Assigned.{none_more, either, first_by, second_by, if_false, at_size}
 use Rattle.jz_total_rows.proofs.RightSides.{within_kept, no_move, operates_at}
 use Rattle.jz_total_rows.proofs.Statements.{assign_matches, assigned_rm, OwnSize, of_left, of_right, TypedLeft, typed_left, left_first, right_first, read_size, behind_says, updated_size}
 use Rattle.jz_total_rows.proofs.Whole.{FieldsKept, fields_kept, within_value, value_there, operates_left, counted_kept, left_expr, update_there, chosen_only, chosen_parts, chosen_there, takes_of}
-use Rattle.jz_total_flags.specs.Ready.{HasOperations, HasRowOf, AllAssignmentsHaveOperations}
+use Rattle.jz_total_flags.specs.Ready.{HasOperations, AllAssignmentsHaveOperations}
 use Rattle.jz_total_flags.proofs.Tests.{IsFlagOf, flag_or_comparison}
 use Rattle.jz_total_flags.proofs.Choices.{flag_choice}
-use Rattle.jz_total_flags.proofs.Quotients.{divides_arith, divides_no_shift, quotient_only, QuotientFound, quotient_found}
+use Rattle.jz_total_flags.proofs.Quotients.{divides_arith, divides_no_shift, quotient_only, quotient_found}
 
 -- ---- a quotient carries no flag
 no_carry : (o p : BinOp) → divides o ≡ true → carries o p ≡ false

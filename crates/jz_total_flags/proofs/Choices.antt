@@ -1,5 +1,5 @@
 -- `r = o if c` where c is a bool variable has operations.
-use Rattle.std.proofs.Common.{◌≡◌, [], ◌∷◌, Some, None, sym, subst}
+use Rattle.std.proofs.Common.{[], ◌∷◌, Some, None, sym, subst}
 use Rattle.jz_io.specs.declared.span.Span.{Span}
 use Rattle.jz_tree.specs.declared.expr.Expr.{Expr}
 use Rattle.jz_tree.specs.declared.stmt.Lval.{Lval}

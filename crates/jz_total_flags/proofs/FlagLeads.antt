@@ -1,14 +1,12 @@
 -- The flags that lead the results of an intrinsic have variables.
-use Rattle.std.proofs.Common.{◌≡◌, Bool, true, false, ◌&&◌, List, [], ◌∷◌, Option, Some, None, refl, sym, ap, ◌∙◌, subst}
+use Rattle.std.proofs.Common.{◌≡◌, Bool, true, false, List, [], ◌∷◌, Option, Some, None, refl, sym, ap, ◌∙◌, subst}
 use Rattle.std.specs.Prelude.{All}
 use Rattle.std.proofs.lemmas.Bool.{and_parts, false≢true}
 use Rattle.std.proofs.lemmas.List.Elements.{All-head, All-tail}
 use Rattle.jz_words.specs.declared.size.Size.{Size}
-use Rattle.jz_io.specs.declared.span.Span.{Span}
 use Rattle.jz_tree.specs.declared.expr.Storage.{Storage}
 use Rattle.jz_tree.specs.declared.expr.Storage.TheVariants as storage
 use Rattle.jz_tree.specs.declared.expr.Access.{Access}
-use Rattle.jz_tree.specs.declared.expr.Expr.{Expr}
 use Rattle.jz_tree.specs.declared.expr.Expr.TheViews.{out-Access}
 use Rattle.jz_tree.specs.declared.expr.Var.{Var}
 use Rattle.jz_tree.specs.declared.stmt.Lval.{Lval}
@@ -20,7 +18,7 @@ use Rattle.jz_select.specs.declared.class.Class.TheVariants as class
 use Rattle.jz_select.specs.declared.shaping.Flags.TheVariants as flags
 use Rattle.jz_select.specs.Sums.{is_address, is_index}
 use Rattle.jz_select.specs.Look.{look_of, terms_of}
-use Rattle.jz_select.specs.Operands.{var_class, class_if, cell_at, cell_class, cell_of, mem_of, dest_of}
+use Rattle.jz_select.specs.Operands.{var_class, class_if, cell_at, cell_class}
 use Rattle.jz_select.specs.Rows.{is_flag_result}
 use Rattle.jz_select.specs.Shapes.{leads, two_lead, four_lead, five_lead, if_lead, value_behind}
 use Rattle.jz_judgement.proofs.Nothing.{none_not, same_some}

@@ -1,12 +1,11 @@
 -- What is behind the flags of an intrinsic that matches has the actions of its form.
-use Rattle.std.proofs.Common.{◌≡◌, Bool, true, false, ◌&&◌, ◌||◌, List, [], ◌∷◌, Option, Some, None, refl, sym, ap, ◌∙◌, subst}
+use Rattle.std.proofs.Common.{◌≡◌, Bool, true, false, ◌&&◌, ◌||◌, List, [], ◌∷◌, Option, Some, None, refl, sym, ap, ◌∙◌}
 use Rattle.std.specs.Prelude.{All}
 use Rattle.std.specs.Option.{option_or}
-use Rattle.std.proofs.lemmas.Bool.{and_parts, false≢true}
+use Rattle.std.proofs.lemmas.Bool.{and_parts}
 use Rattle.std.proofs.lemmas.List.Elements.{All-head, All-tail}
 use Rattle.jz_words.specs.declared.size.Size.{Size}
 use Rattle.x64_insn.specs.declared.types.Alu.{Alu}
-use Rattle.x64_insn.specs.declared.types.Alu.TheVariants as alu
 use Rattle.x64_insn.specs.declared.types.One.{One}
 use Rattle.x64_insn.specs.declared.types.Shift.{Shift}
 use Rattle.x64_insn.specs.Chosen.{is_test}
@@ -17,12 +16,10 @@ use Rattle.jz_tree.specs.declared.expr.Expr.{Expr}
 use Rattle.jz_tree.specs.declared.stmt.Lval.{Lval}
 use Rattle.jz_judgement.specs.Places as place
 use Rattle.jz_judgement.specs.Lefts.{Holds}
-use Rattle.jz_judgement.proofs.Nothing.{none_not}
 use Rattle.jz_select.specs.declared.class.Class.{Class}
 use Rattle.jz_select.specs.declared.class.Operand.{Operand}
-use Rattle.jz_select.specs.declared.shape.Shape.TheVariants as shapes
 use Rattle.jz_select.specs.Operands.{class_of, dest_of, operand_of}
-use Rattle.jz_select.specs.Rows.{is_r, is_i, is_rm, is_rmi, is_flag, is_long, class_size, changes, computes, times, times_inline, shifts_inline, shifts_masked, one_fits, two_fits, three_fits}
+use Rattle.jz_select.specs.Rows.{is_r, is_rmi, is_flag, is_long, class_size, changes, computes, shifts_inline, shifts_masked, one_fits, two_fits, three_fits}
 use Rattle.jz_select.specs.Shapes.{whichever, one_shape, two_shape, three_shape}
 use Rattle.jz_row_laws.proofs.Copied.{Matches, no_free}
 use Rattle.jz_stuck_runs.proofs.RowSizes.{named_fits}
@@ -33,7 +30,6 @@ use Rattle.jz_operations.specs.Rows.{Frame}
 use Rattle.jz_operations.specs.declared.operation.Action.{Action}
 use Rattle.jz_change.specs.declared.change.Numbers.{Numbers}
 use Rattle.jz_homes.specs.Homes.{Homes, IsHoming}
-use Rattle.jz_flag_rows.specs.Wide.{IsLong}
 use Rattle.jz_one_flag_row.specs.Forms.{HasForm, f_two, f_carried, f_one, f_swap, f_shift, f_times}
 use Rattle.jz_total_rows.specs.Expanded.{IsExpanded, IsExpandedLeft}
 use Rattle.jz_total_rows.proofs.Classes.{flag_variable}

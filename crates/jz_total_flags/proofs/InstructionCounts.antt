@@ -1,12 +1,11 @@
 -- Products, and shifts by a number or a masked byte, beside the result of an intrinsic.
-use Rattle.std.proofs.Common.{◌≡◌, ℕ, Bool, true, false, not, ◌&&◌, ◌||◌, List, [], ◌∷◌, Option, Some, None, refl, sym, ap, ◌∙◌, subst, inl, inr, pos}
+use Rattle.std.proofs.Common.{◌≡◌, ℕ, Bool, true, false, not, ◌&&◌, ◌||◌, Option, Some, None, refl, sym, ap, ◌∙◌, subst, inl, inr, pos}
 use Rattle.std.specs.Prelude.{◌⊎◌}
 use Rattle.std.specs.Option.{option_or}
 use Rattle.std.proofs.lemmas.Bool.{and_parts, false≢true}
 use Rattle.jz_words.specs.declared.size.Size.{Size}
 use Rattle.jz_words.specs.declared.size.Size.TheVariants.{S8, S16, S32, S64}
-use Rattle.jz_words.specs.Readings.{reading_of, fits_bytes}
-use Rattle.x64_insn.specs.Table.{immediate_by}
+use Rattle.jz_words.specs.Readings.{reading_of}
 use Rattle.x64_insn.specs.declared.types.Shift.{Shift}
 use Rattle.jz_tree.specs.Span.{Span}
 use Rattle.jz_tree.specs.declared.expr.BinOp.TheVariants as op
@@ -18,7 +17,7 @@ use Rattle.jz_select.specs.declared.class.Class.{Class}
 use Rattle.jz_select.specs.declared.class.Class.TheVariants as class
 use Rattle.jz_select.specs.declared.class.Operand.{Operand}
 use Rattle.jz_select.specs.Places.{meeting_of}
-use Rattle.jz_select.specs.Operands.{class_of, dest_of, operand_of}
+use Rattle.jz_select.specs.Operands.{dest_of, operand_of}
 use Rattle.jz_select.specs.Rows.{is_r, is_m, is_i, is_rm, is_rmi, is_same_place, is_apart_from, is_wide, is_longest, class_size, changes, computes, masks, times, times_inline, shifts_inline, shifts_masked}
 use Rattle.jz_judgement.specs.Places as place
 use Rattle.jz_judgement.specs.Lefts.{Holds}
@@ -42,7 +41,6 @@ use Rattle.jz_flag_rows.specs.Instructions.{IsCount, by_number, by_variable}
 use Rattle.jz_one_flag_row.specs.Forms.{IsCounted}
 use Rattle.jz_total_rows.specs.Expanded.{IsExpanded, IsExpandedLeft}
 use Rattle.jz_total_rows.proofs.Summed.{seen}
-use Rattle.jz_total_rows.proofs.Fits.{Fits}
 use Rattle.jz_total_rows.proofs.Stands as stands
 use Rattle.jz_total_rows.proofs.Meets.{A, masked_apart, operation_not_same}
 use Rattle.jz_total_rows.proofs.Bringing.{Beside}

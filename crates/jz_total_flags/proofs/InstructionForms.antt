@@ -1,5 +1,5 @@
 -- Each form of an intrinsic has actions that can be encoded.
-use Rattle.std.proofs.Common.{◌≡◌, inl, inr, ◌<◌, ℕ, Bool, true, false, ◌&&◌, not, List, [], ◌∷◌, ◌++◌, Option, Some, None, refl, sym, ap, ◌∙◌, subst, ℤ, pos}
+use Rattle.std.proofs.Common.{◌≡◌, inl, inr, ◌<◌, ℕ, Bool, true, false, ◌&&◌, List, [], ◌∷◌, ◌++◌, Option, Some, None, refl, sym, ap, subst}
 use Rattle.std.specs.Prelude.{◌⊎◌, All}
 use Rattle.std.proofs.lemmas.Bool.{and_parts, false≢true}
 use Rattle.std.proofs.lemmas.List.Elements.{All-nil, All-cons, All-append}
@@ -7,7 +7,6 @@ use Rattle.jz_words.specs.declared.size.Size.{Size}
 use Rattle.jz_words.specs.declared.size.Size.TheVariants.{S8, S16, S32, S64}
 use Rattle.jz_words.specs.Sizes.{bits_of}
 use Rattle.x64_insn.specs.declared.types.Alu.{Alu}
-use Rattle.x64_insn.specs.declared.types.Alu.TheVariants as alu
 use Rattle.x64_insn.specs.declared.types.One.{One}
 use Rattle.x64_insn.specs.declared.types.Shift.{Shift}
 use Rattle.x64_insn.specs.Chosen.{is_spelled, is_test}
@@ -17,7 +16,7 @@ use Rattle.jz_tree.specs.declared.expr.Var.{Var}
 use Rattle.jz_tree.specs.declared.stmt.Lval.{Lval}
 use Rattle.jz_select.specs.declared.class.Class.{Class}
 use Rattle.jz_select.specs.declared.class.Operand.{Operand}
-use Rattle.jz_select.specs.Rows.{is_r, is_m, is_i, is_rm, is_rmi, is_long, class_size, changes, computes}
+use Rattle.jz_select.specs.Rows.{is_r, is_rm, changes, computes}
 use Rattle.jz_meaning.specs.Values.{key_of, ref_of}
 use Rattle.jz_operations.specs.declared.operation.Pinned.{Pinned}
 use Rattle.jz_operations.specs.declared.operation.Arg.{Arg}
@@ -27,15 +26,15 @@ use Rattle.jz_operations.specs.declared.operation.Action.TheVariants as action
 use Rattle.jz_encodable.specs.Encodable.{is_spelled_at, CanEncode}
 use Rattle.jz_change.specs.declared.change.Numbers.{Numbers}
 use Rattle.jz_homes.specs.Homes.{Homes, in_flag}
-use Rattle.jz_homes.specs.Operands.{Leaks, silent, IsArg, IsDest}
-use Rattle.jz_row_operations.specs.Table.{nothing, brought, behind}
+use Rattle.jz_homes.specs.Operands.{Leaks, IsArg, IsDest}
+use Rattle.jz_row_operations.specs.Table.{nothing, behind}
 use Rattle.jz_flag_rows.specs.Wide.{IsLong}
-use Rattle.jz_flag_rows.specs.Instructions.{NotAccess, IsCount, count_code}
+use Rattle.jz_flag_rows.specs.Instructions.{NotAccess, IsCount}
 use Rattle.jz_one_flag_row.specs.Forms.{IsTwo, IsCarried, IsOne, IsSwap, IsComparison, IsCounted}
 use Rattle.jz_total_rows.proofs.Fits.{fit_at, is_place, is_kept, Fits, alu_spelled, one_spelled, shift_spelled, shift_by_spelled}
-use Rattle.jz_total_rows.proofs.Stands.{Stands, is_variable, stands_place, stands_i, variable_of, kept_both}
+use Rattle.jz_total_rows.proofs.Stands.{Stands, is_variable, stands_place, variable_of}
 use Rattle.jz_total_rows.proofs.Bringing.{encode, Beside, Brought, brings, changes_brings}
-use Rattle.jz_total_rows.proofs.Rows.{not_imm, place_not_imm, InVariable, in_variable}
+use Rattle.jz_total_rows.proofs.Rows.{not_imm, place_not_imm, in_variable}
 
 -- actions of a row that can be encoded
 abbrev pub HasActs : (List Action → List Numbers → Type 0) → Type 0

@@ -1,5 +1,5 @@
 -- LEA has actions.
-use Rattle.std.proofs.Common.{◌≡◌, ℕ, suc, ◌+◌, ◌≤◌, Bool, true, false, ◌&&◌, List, [], ◌∷◌, Option, Some, None, refl, sym, ap, ◌∙◌, subst, arith, inl, inr, ℤ}
+use Rattle.std.proofs.Common.{◌≡◌, ℕ, ◌+◌, ◌≤◌, Bool, true, false, ◌&&◌, List, [], ◌∷◌, None, refl, sym, ap, ◌∙◌, subst, arith, inl, inr, ℤ}
 use Rattle.std.specs.Prelude.{nat_le, ◌⊎◌, All}
 use Rattle.std.proofs.lemmas.Bool.{false≢true, and_parts, leb-true}
 use Rattle.std.proofs.lemmas.List.Elements.{All-nil, All-cons}
@@ -8,12 +8,11 @@ use Rattle.jz_words.specs.Readings.{reading_of, fits_bytes}
 use Rattle.x64_insn.specs.Chosen.{is_spelled}
 use Rattle.jz_tree.specs.declared.expr.Expr.{Expr}
 use Rattle.jz_tree.specs.declared.stmt.Lval.{Lval}
-use Rattle.jz_select.specs.declared.class.Class.{Class}
 use Rattle.jz_select.specs.declared.class.Sum as looked
 use Rattle.jz_select.specs.Sums.{capped_count, is_sum}
 use Rattle.jz_select.specs.Look.{look_of, terms_of}
 use Rattle.jz_select.specs.Operands.{dest_of}
-use Rattle.jz_select.specs.Rows.{is_r, is_m, is_rm}
+use Rattle.jz_select.specs.Rows.{is_r, is_m}
 use Rattle.jz_judgement.specs.Places as place
 use Rattle.jz_judgement.specs.Lefts.{Holds}
 use Rattle.jz_row_laws.proofs.Booleans.{or_left}
@@ -27,7 +26,7 @@ use Rattle.jz_operations.specs.declared.operation.Arg.TheVariants as arg
 use Rattle.jz_operations.specs.declared.operation.Action.TheVariants as action
 use Rattle.jz_encodable.specs.Encodable.{is_spelled_at, CanEncode}
 use Rattle.jz_homes.specs.Homes.{Homes}
-use Rattle.jz_homes.specs.Sums.{Sum, sum_of, IsAddress, of_base}
+use Rattle.jz_homes.specs.Sums.{Sum, sum_of, of_base}
 use Rattle.jz_flag_rows.specs.Instructions.{IsLeaAddress, with_base, a_number, an_index}
 use Rattle.jz_one_flag_row.specs.Forms.{IsLea}
 use Rattle.jz_total_rows.specs.Expanded.{IsExpanded, IsExpandedLeft}

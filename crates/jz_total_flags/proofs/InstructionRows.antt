@@ -1,5 +1,5 @@
 -- Operands of an intrinsic beside its result, and the actions that they have.
-use Rattle.std.proofs.Common.{◌≡◌, inl, inr, ◌<◌, ℕ, Bool, true, false, ◌&&◌, ◌||◌, not, List, [], ◌∷◌, Option, Some, None, refl, sym, ap, ◌∙◌, subst, pos}
+use Rattle.std.proofs.Common.{◌≡◌, inl, inr, Bool, true, false, ◌&&◌, ◌||◌, None, refl, sym, ◌∙◌, subst}
 use Rattle.std.specs.Prelude.{◌⊎◌}
 use Rattle.std.proofs.lemmas.Bool.{and_parts, false≢true}
 use Rattle.jz_words.specs.declared.size.Size.{Size}
@@ -7,13 +7,12 @@ use Rattle.x64_insn.specs.declared.types.Alu.{Alu}
 use Rattle.x64_insn.specs.declared.types.One.{One}
 use Rattle.x64_insn.specs.Chosen.{is_test}
 use Rattle.jz_tree.specs.declared.expr.Expr.{Expr}
-use Rattle.jz_tree.specs.declared.expr.Expr.TheVariants as expr
 use Rattle.jz_tree.specs.declared.stmt.Lval.{Lval}
 use Rattle.jz_select.specs.declared.class.Class.{Class}
 use Rattle.jz_select.specs.declared.class.Class.TheVariants as class
 use Rattle.jz_select.specs.declared.class.Operand.{Operand}
 use Rattle.jz_select.specs.Operands.{class_of, dest_of, operand_of}
-use Rattle.jz_select.specs.Rows.{is_r, is_m, is_i, is_rm, is_rmi, is_long, class_size, changes, computes}
+use Rattle.jz_select.specs.Rows.{is_r, is_m, is_i, is_rm, is_rmi, changes, computes}
 use Rattle.jz_judgement.specs.Places as place
 use Rattle.jz_judgement.specs.HasType.{value, HasType}
 use Rattle.jz_judgement.specs.Lefts.{Holds}
@@ -25,13 +24,10 @@ use Rattle.jz_flag_rows.specs.Wide.{IsLong}
 use Rattle.jz_one_flag_row.specs.Forms.{IsTwo, IsCarried, IsOne, IsSwap, IsComparison}
 use Rattle.jz_total_rows.specs.Expanded.{IsExpanded, IsExpandedLeft}
 use Rattle.jz_total_rows.proofs.Classes.{IsFlagVariable}
-use Rattle.jz_total_rows.proofs.Fits.{is_kept, Fits}
 use Rattle.jz_total_rows.proofs.Stands.{stands_place, stands_m}
 use Rattle.jz_total_rows.proofs.Meets.{A}
-use Rattle.jz_total_rows.proofs.Operands.{of_size, operand_there, OperandAs, left_there, LeftAs, left_operand}
+use Rattle.jz_total_rows.proofs.Operands.{of_size, operand_there, OperandAs, left_there, left_operand}
 use Rattle.jz_total_rows.proofs.Assigned.{IsKept, beside_operand}
-use Rattle.jz_total_flags.proofs.Quotients.{long_of}
-use Rattle.jz_total_flags.proofs.Tests.{IsFlagOf}
 use Rattle.jz_total_flags.proofs.InstructionForms.{HasActs, two_found, carried_found, one_found, swap_found, compare_found}
 
 -- an operand at that size, whose numbers have fields

@@ -1,5 +1,5 @@
 -- SETcc has operations.
-use Rattle.std.proofs.Common.{◌≡◌, ℕ, Bool, true, List, [], ◌∷◌, None, Some, refl, inl, inr}
+use Rattle.std.proofs.Common.{◌≡◌, ℕ, true, List, [], ◌∷◌, None, Some, refl, inl, inr}
 use Rattle.std.specs.Prelude.{◌⊎◌, All, ◌&&◌}
 use Rattle.std.proofs.lemmas.Bool.{and_parts}
 use Rattle.std.proofs.lemmas.List.Elements.{All-head}
@@ -41,7 +41,7 @@ use Rattle.jz_flag_rows.specs.Rows.{sets}
 use Rattle.jz_every_row.specs.Statements.{by_flags}
 use Rattle.jz_total_rows.specs.Expanded.{IsExpanded, IsExpandedLeft}
 use Rattle.jz_total_rows.specs.Covered.{IsComparison}
-use Rattle.jz_total_rows.proofs.Fits.{fit_at, is_place, Fits, one_spelled}
+use Rattle.jz_total_rows.proofs.Fits.{fit_at, is_place, one_spelled}
 use Rattle.jz_total_rows.proofs.Stands.{stands_place}
 use Rattle.jz_total_rows.proofs.Bringing.{encode}
 use Rattle.jz_total_rows.proofs.Operands.{left_there, left_operand}

@@ -36,7 +36,7 @@ use Rattle.jz_homes.specs.Homes.{Homes, IsHoming}
 use Rattle.jz_homes.specs.Operands.{Leaks, IsArg}
 use Rattle.jz_row_operations.specs.Table.{same_arg, is_imm, is_free, brought}
 use Rattle.jz_flag_rows.specs.Results.{IsPinned, no_word, a_word}
-use Rattle.jz_flag_rows.specs.Wide.{IsLong, is_pinned, is_apart, unless_later, wide_code}
+use Rattle.jz_flag_rows.specs.Wide.{IsLong, is_pinned, is_apart, wide_code}
 use Rattle.jz_total_rows.specs.Expanded as expanded
 use Rattle.jz_total_rows.specs.Expanded.{HasHome, IsExpandedLeft}
 use Rattle.jz_total_rows.proofs.Fits.{is_place, Fits}
@@ -190,13 +190,13 @@ not_number (stands.as_number i) e = absurd (false≢true e)
 pub record Low (home : Homes) (z : Size) (l : Lval) (h : Option Pinned) (x y : Arg) : Type 0 where
   pub kept : Option Pinned
   pub is : IsPinned home z l kept
-  pub wide : WideMade z (unless_later h kept) kept x y
+  pub wide : WideMade z h kept x y
 
 pub low_skip : (home : Homes) (z : Size) → IsLong z → (l : Lval) (h : Option Pinned) (x y : Arg) → IsExpandedLeft home l → is_skip (dest_of l) ≡ true → Fits z x → is_place y ≡ true → Fits z y → Low home z l h x y
 low_skip home z long l h x y e s fx py fy =
     let k = skip_is home l e s in
     subst (λ l. Low home z l h x y) (sym k.1) (
-    record { kept = None; is = no_word k.0; wide = wide_made z long (unless_later h None) None x y fx py fy (λ i. absurd (false≢true (and_parts (not (is_imm x)) false i).1)) (λ f g. refl) }
+    record { kept = None; is = no_word k.0; wide = wide_made z long h None x y fx py fy (λ i. absurd (false≢true (and_parts (not (is_imm x)) false i).1)) (λ f g. refl) }
     )
 
 pub low_register : (home : Homes) (z : Size) → IsLong z → (l : Lval) (h : Option Pinned) (x y : Arg) (D : LeftAs home z l) (oa ob : Operand) → is_r (dest_of l) ≡ true → Fits z D.arg' → Beside z D.arg' x oa → Beside z D.arg' y ob → is_rm ob.class ≡ true → computes (not (is_i oa.class)) (dest_of l) oa ob ≡ true → Low home z l h x y
@@ -209,6 +209,6 @@ low_register home z long l h x y D oa ob r fd m n rm e =
       kept = Some k;
       is = register_pinned home l z D.arg' g;
       wide =
-          wide_made z long (unless_later h (Some k)) (Some k) x y m.fits (stands_place n.stands rm) n.fits (λ i. not_number m.stands (and_parts (not (is_imm x)) (is_pinned (Some k) y) i).0)
+          wide_made z long h (Some k) x y m.fits (stands_place n.stands rm) n.fits (λ i. not_number m.stands (and_parts (not (is_imm x)) (is_pinned (Some k) y) i).0)
           (λ f g. far_by k z x y (B'.before, B'.second) B'.is f g);
     }

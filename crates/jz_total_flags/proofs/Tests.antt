@@ -1,5 +1,5 @@
 -- A test is a comparison or a bool variable, and has operations.
-use Rattle.std.proofs.Common.{◌≡◌, ℕ, Bool, true, false, None, refl, sym, ap, ◌∙◌, inl, inr}
+use Rattle.std.proofs.Common.{◌≡◌, ℕ, Bool, true, false, refl, sym, ap, ◌∙◌, inl, inr}
 use Rattle.std.specs.Prelude.{◌⊎◌, ◌||◌, not}
 use Rattle.std.proofs.lemmas.Bool.{false≢true, and_parts}
 use Rattle.jz_tree.specs.declared.expr.Expr.{Expr}
@@ -29,7 +29,7 @@ use Rattle.jz_total_rows.specs.Covered as covered
 use Rattle.jz_total_rows.specs.Covered.{IsComparison}
 use Rattle.jz_total_rows.specs.Laws.{IsReadyTest}
 use Rattle.jz_total_rows.proofs.Whole as rows
-use Rattle.jz_total_flags.specs.Ready.{HasTest, HasLoopTest, IsReadyCondition, IsReadyLoopTest, AllTestsHaveOperations, AllLoopTestsHaveOperations}
+use Rattle.jz_total_flags.specs.Ready.{HasTest, IsReadyCondition, AllTestsHaveOperations, AllLoopTestsHaveOperations}
 
 -- ---- a condition by its outermost layer
 flags_at : (e : Expr) (l : Layer) → out-Expr e ≡ l → has_flags e ≡ true → flags_layer l ≡ true

@@ -1,6 +1,5 @@
 -- Bodies over variables, statement by statement.
 use Rattle.std.proofs.Common.{[], ◌∷◌, None, refl}
-use Rattle.std.specs.Prelude.{⊤}
 use Rattle.jz_words.specs.declared.size.Size.TheVariants.{S8}
 use Rattle.jz_runs.specs.Trees.{done, op, quiet, choose, loop, each, call}
 use Rattle.jz_meaning.specs.Statements as source

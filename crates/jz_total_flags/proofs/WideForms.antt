@@ -22,7 +22,7 @@ use Rattle.jz_operations.specs.declared.operation.Action.TheVariants as action
 use Rattle.jz_operations.specs.Rows.{Frame, low_at, high_at}
 use Rattle.jz_encodable.specs.Encodable.{CanEncode}
 use Rattle.jz_homes.specs.Homes.{Homes, IsHoming}
-use Rattle.jz_flag_rows.specs.Wide.{IsLong, unless_later, divide_two_code}
+use Rattle.jz_flag_rows.specs.Wide.{IsLong, divide_two_code}
 use Rattle.jz_flag_rows.proofs.Codes.{divide_two_all}
 use Rattle.jz_one_flag_row.specs.Forms.{IsWideProduct, IsLongDivision}
 use Rattle.jz_total_rows.specs.Expanded.{IsExpandedLeft}
@@ -104,7 +104,7 @@ module _ (frame : Frame) (home : Homes) (homing : IsHoming frame home) (z : Size
       let long = long_of (division_size o (dest_of h) (dest_of l) (class_of hi) (class_of lo) (class_of b)) z
       (or_sized o rest z named (or_sized (class_size (dest_of h)) (option_or (class_size (dest_of l)) sizes) z Q.sized (or_sized (class_size (dest_of l)) sizes z R.sized three))) p6.1 in
       let pb = stands_place OB.stands p5.0 in (
-        divide_two_code z (unless_later Q.kept R.kept) R.kept OH.arg' OL.arg' OB.arg',
+        divide_two_code z Q.kept R.kept OH.arg' OL.arg' OB.arg',
         _,
         record {
           quotient = Q.kept;
@@ -128,5 +128,5 @@ module _ (frame : Frame) (home : Homes) (homing : IsHoming frame home) (z : Size
           code = refl;
           shown = refl;
         },
-        divide_encoded long (unless_later Q.kept R.kept) R.kept OH.arg' OL.arg' OB.arg' (OH.fits None r.kept) (OL.fits None s.kept) pb (OB.fits None t.kept),
+        divide_encoded long Q.kept R.kept OH.arg' OL.arg' OB.arg' (OH.fits None r.kept) (OL.fits None s.kept) pb (OB.fits None t.kept),
       )

@@ -28,7 +28,7 @@ use Rattle.jz_select.specs.Rows.{is_r, is_i, is_rm, is_wide, class_size, p14}
 use Rattle.jz_select.specs.Shapes.{whichever, has_flags, is_test, assign_of}
 use Rattle.jz_judgement.specs.Places as place
 use Rattle.jz_judgement.specs.HasType as judged
-use Rattle.jz_judgement.specs.HasType.{Term, value, left, result, HasType, Operates, Says}
+use Rattle.jz_judgement.specs.HasType.{value, left, result, HasType, Operates, Says}
 use Rattle.jz_judgement.specs.Lefts as lefts
 use Rattle.jz_judgement.specs.Lefts.{Takes, value_term, Values}
 use Rattle.jz_run_laws.proofs.Sizes.{right_type}
@@ -45,7 +45,7 @@ use Rattle.jz_limits.specs.declared.operands.Role.TheVariants as role
 use Rattle.jz_limits.specs.Values.{no_numbers, is_int, only_int}
 use Rattle.jz_limits.specs.Asked.{told, Parts, in_kinds, is_count, left_access, to_register, is_free, value_role, value_as, asked_as, asked_if, left_parts, value_parts, assigned_parts, asked, asked_condition, size_compared}
 use Rattle.jz_limits.specs.InnerLooked as found
-use Rattle.jz_limits.specs.InnerLooked.{Seen, if_not, count_field}
+use Rattle.jz_limits.specs.InnerLooked.{Seen, count_field}
 use Rattle.jz_limits.proofs.Layers.{inline_var, look_bool, count_is}
 use Rattle.jz_operations.specs.declared.operation.Arg.{Arg}
 use Rattle.jz_operations.specs.declared.operation.Arg.TheVariants as arg
@@ -60,7 +60,7 @@ use Rattle.jz_row_operations.specs.Lowering.{sets, sets_if, tests, tests_each, n
 use Rattle.jz_total_rows.specs.Expanded as expanded
 use Rattle.jz_total_rows.specs.Expanded.{HasHome, a_word, a_flag, a_scalar, an_array, IsExpanded, a_number, a_truth, a_variable, a_cell, a_load, a_minus, a_denial, a_cast, of_two, IsExpandedLeft}
 use Rattle.jz_total_rows.specs.Covered as covered
-use Rattle.jz_total_rows.specs.Covered.{divides_layer, is_quotient, IsComparison, IsCovered}
+use Rattle.jz_total_rows.specs.Covered.{divides_layer, IsComparison, IsCovered}
 use Rattle.jz_total_rows.specs.Laws.{IsReadyAssign, HasRowOperations, AssignmentsHaveOperations, TestsHaveOperations, LoopTestsHaveOperations}
 use Rattle.jz_total_rows.proofs.Forms.{home_not_inline, minus_inline, denial_inline, cast_inline, two_inline, cell_inline, load_inline}
 use Rattle.jz_total_rows.proofs.InlineValues.{IsNumber, IsTruth, condition_truth}

@@ -5,10 +5,6 @@ use Rattle.jz_tree.specs.declared.expr.BinOp.{BinOp}
 use Rattle.jz_tree.specs.declared.expr.Expr.{Expr}
 use Rattle.jz_tree.specs.declared.expr.Expr.TheVariants as expr
 use Rattle.jz_tree.specs.declared.stmt.Lval.{Lval}
-use Rattle.jz_tree.specs.declared.stmt.Rhs.TheVariants as rhs
-use Rattle.jz_tree.specs.declared.stmt.StmtKind.TheVariants as stmt
-use Rattle.jz_select.specs.declared.pattern.Pattern.{Pattern}
-use Rattle.jz_select.specs.Selected.{IsSelected}
 use Rattle.jz_select.specs.Shapes.{is_test}
 use Rattle.jz_judgement.specs.Places.{truth}
 use Rattle.jz_judgement.specs.HasType.{value, HasType}

@@ -15,12 +15,12 @@ returns-in-Var t c =
 pub returns-in_ok-found-in-Not : goal.returns-in_ok-found-in-Not
 returns-in_ok-found-in-Not t c =
     let m = c.in_ok-found-in-Not.found in
-    denied_is (homes_of c.args.homes.now) c.args.condition.now c.in-Not.inner c.get-in-Not.result.now c.in-Not.field-1 m.variable m.denied _ c.in-Not.is c.get-in-Not.ensures refl c.in_ok-found-in-Not.ensures
+    denied_is (homes_of c.args.homes.now) c.args.condition.now c.in-Not.inner c.get.result.now c.in-Not.field-1 m.variable m.denied _ c.in-Not.is c.get.ensures refl c.in_ok-found-in-Not.ensures
 
 pub returns-in_err-found-in-Not : goal.returns-in_err-found-in-Not
 returns-in_err-found-in-Not t c =
     none_or {A = FlagTest} (λ f. IsFlagCondition (homes_of c.args.homes.now) c.args.condition.now f.variable f.denied) c.from_residual.result (search rules)
-    (no_denied (homes_of c.args.homes.now) c.args.condition.now c.in-Not.inner c.get-in-Not.result.now c.in-Not.field-1 c.in-Not.is c.get-in-Not.ensures c.in_err-found-in-Not.ensures)
+    (no_denied (homes_of c.args.homes.now) c.args.condition.now c.in-Not.inner c.get.result.now c.in-Not.field-1 c.in-Not.is c.get.ensures c.in_err-found-in-Not.ensures)
 
 pub returns-in_default : goal.returns-in_default
 returns-in_default t c = no_flag_form (homes_of c.args.homes.now) c.args.condition.now (search rules) (search rules)

@@ -1,4 +1,4 @@
-use Rattle.std.proofs.Common.{refl, rules, sym, ◌∙◌}
+use Rattle.std.proofs.Common.{rules, sym, ◌∙◌}
 use Rattle.jz_operands.specs.TableHomes.{homes_of}
 use Rattle.jz_operands.proofs.SumLemmas.{none_or}
 use Rattle.jz_pinned_rows.specs.declared.row.Acts.{Acts}
