@@ -1,11 +1,38 @@
 -- The flags that lead the results.
-use Rattle.std.proofs.Common.{◌≡◌, List, ◌∷◌, Option, None, refl, sym, subst}
+use Rattle.std.proofs.Common.{◌≡◌, ℕ, ◌-◌, ◌≤◌, List, [], ◌∷◌, length, take, drop, get_or, Option, None, refl, sym, ap, ◌∙◌, subst, arith}
+use Rattle.std.proofs.lemmas.List.{take_rest}
 use Rattle.jz_tree.specs.declared.stmt.Lval.{Lval}
 use Rattle.jz_operations.specs.declared.operation.Pinned.{Pinned}
 use Rattle.jz_operations.specs.declared.operation.Flags.{Flags}
 use Rattle.jz_homes.specs.Homes.{Homes}
 use Rattle.jz_flag_rows.specs.Results.{IsFlag, AreTwo, two, AreFour, four, AreFive, five}
 use Rattle.jz_instructions.specs.InnerRows.{NeverLed}
+
+-- ---- a slice of so many or more
+module _ {A : Type 0} where
+  pub two_up : (xs : List A) (a b : A) → 2 ≤ length xs → a ≡ get_or xs 0 a → b ≡ get_or xs 1 b → xs ≡ a ∷ b ∷ take (length xs - 2) (drop 2 xs)
+  two_up [] a b l e f = absurd (omega (arith, l))
+  two_up (x ∷ []) a b l e f = absurd (omega (arith, l))
+  two_up (x ∷ y ∷ xs) a b l e f = ap (λ u. u ∷ y ∷ xs) (sym e) ∙ ap (λ u. a ∷ u ∷ xs) (sym f) ∙ ap (λ r. a ∷ b ∷ r) (sym (take_rest (x ∷ y ∷ xs) 2))
+
+  pub four_up : (xs : List A) (a b c d : A) → 4 ≤ length xs → a ≡ get_or xs 0 a → b ≡ get_or xs 1 b → c ≡ get_or xs 2 c → d ≡ get_or xs 3 d → xs ≡ a ∷ b ∷ c ∷ d ∷ take (length xs - 4) (drop 4 xs)
+  four_up [] a b c d l e f g h = absurd (omega (arith, l))
+  four_up (x ∷ []) a b c d l e f g h = absurd (omega (arith, l))
+  four_up (x ∷ y ∷ []) a b c d l e f g h = absurd (omega (arith, l))
+  four_up (x ∷ y ∷ z ∷ []) a b c d l e f g h = absurd (omega (arith, l))
+  four_up (x ∷ y ∷ z ∷ w ∷ xs) a b c d l e f g h =
+      ap (λ u. u ∷ y ∷ z ∷ w ∷ xs) (sym e) ∙ ap (λ u. a ∷ u ∷ z ∷ w ∷ xs) (sym f) ∙ ap (λ u. a ∷ b ∷ u ∷ w ∷ xs) (sym g) ∙ ap (λ u. a ∷ b ∷ c ∷ u ∷ xs) (sym h)
+      ∙ ap (λ r. a ∷ b ∷ c ∷ d ∷ r) (sym (take_rest (x ∷ y ∷ z ∷ w ∷ xs) 4))
+
+  pub five_up : (xs : List A) (a b c d i : A) → 5 ≤ length xs → a ≡ get_or xs 0 a → b ≡ get_or xs 1 b → c ≡ get_or xs 2 c → d ≡ get_or xs 3 d → i ≡ get_or xs 4 i → xs ≡ a ∷ b ∷ c ∷ d ∷ i ∷ take (length xs - 5) (drop 5 xs)
+  five_up [] a b c d i l e f g h j = absurd (omega (arith, l))
+  five_up (x ∷ []) a b c d i l e f g h j = absurd (omega (arith, l))
+  five_up (x ∷ y ∷ []) a b c d i l e f g h j = absurd (omega (arith, l))
+  five_up (x ∷ y ∷ z ∷ []) a b c d i l e f g h j = absurd (omega (arith, l))
+  five_up (x ∷ y ∷ z ∷ w ∷ []) a b c d i l e f g h j = absurd (omega (arith, l))
+  five_up (x ∷ y ∷ z ∷ w ∷ v ∷ xs) a b c d i l e f g h j =
+      ap (λ u. u ∷ y ∷ z ∷ w ∷ v ∷ xs) (sym e) ∙ ap (λ u. a ∷ u ∷ z ∷ w ∷ v ∷ xs) (sym f) ∙ ap (λ u. a ∷ b ∷ u ∷ w ∷ v ∷ xs) (sym g) ∙ ap (λ u. a ∷ b ∷ c ∷ u ∷ v ∷ xs) (sym h)
+      ∙ ap (λ u. a ∷ b ∷ c ∷ d ∷ u ∷ xs) (sym j) ∙ ap (λ r. a ∷ b ∷ c ∷ d ∷ i ∷ r) (sym (take_rest (x ∷ y ∷ z ∷ w ∷ v ∷ xs) 5))
 
 module _ (home : Homes) where
   abbrev Flag : Lval → Option Pinned → Type 0

@@ -37,7 +37,7 @@ use Rattle.jz_operands.specs.Refusals.{FindsOr}
 use Rattle.jz_operands.proofs.SumLemmas.{for_found}
 use Rattle.jz_pinned_rows.specs.declared.row.Acts.{Acts}
 use Rattle.jz_pinned_rows.specs.declared.row.PinnedRow.{PinnedRow}
-use Rattle.jz_pinned_rows.specs.Rows.{FindsActs, actions_of, items_of, operations_at}
+use Rattle.jz_pinned_rows.specs.Rows.{FindsActs, FindsRow, actions_of, items_of, operations_at}
 use Rattle.jz_instructions.specs.Rows.{IsInstructionRow, NeverInstruction}
 use Rattle.jz_instructions.specs.declared.forms.Form.{Form as CodeForm}
 use Rattle.jz_instructions.specs.declared.forms.Form.TheVariants as form
@@ -82,6 +82,13 @@ module _ (home : Homes) (z : Size) (i : Intrinsic) (to : List Lval) (es : List E
     led = subst (λ k. AreLed home k to fl rest) is led;
     row = subst (λ g. HasForm home z g rest es (actions_of a) (items_of a)) same row;
   }
+
+-- a slice in place of a list
+pub formed_as : (home : Homes) (z : Size) (i : Intrinsic) (ts to : List Lval) (us es : List Expr) (o : Option PinnedRow) → ts ≡ to → us ≡ es → FindsRow (IsFormed home z i ts us) o → FindsRow (IsFormed home z i to es) o
+formed_as home z i ts to us es o e f h = subst (λ t. FindsRow (IsFormed home z i t es) o) e (subst (λ u. FindsRow (IsFormed home z i ts u) o) f h)
+
+pub byte_as : (home : Homes) (ts to : List Lval) (us es : List Expr) (o : Option PinnedRow) → ts ≡ to → us ≡ es → FindsOr o (IsByteOf home ts us) (NeverByteOf home ts us) → FindsOr o (IsByteOf home to es) (NeverByteOf home to es)
+byte_as home ts to us es o e f h = subst (λ t. FindsOr o (IsByteOf home t es) (NeverByteOf home t es)) e (subst (λ u. FindsOr o (IsByteOf home ts u) (NeverByteOf home ts u)) f h)
 
 -- ---- whose actions can be encoded
 module _ (home : Homes) (i : Instance) (to : List Lval) (es : List Expr) where
