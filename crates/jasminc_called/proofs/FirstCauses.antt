@@ -29,19 +29,18 @@ use Rattle.jasminc_called.specs.Answers.{all_stages}
 use Rattle.jasminc_called.specs.Calls.{refused_by}
 
 -- what is compiled comes before the items
-early : (r : making.Refused) → makings.stage_of r < 11
+early : (r : making.Refused) → makings.stage_of r < 10
 early (made.Unread (unread.Lex fault)) = omega arith
 early (made.Unread (unread.Parse fault)) = omega arith
 early (made.Unread (unread.Typing fault)) = omega arith
 early (made.Limit l) = omega arith
 early (made.Alarm a) = omega arith
-early (made.Making (unmade.NoOperations at)) = omega arith
 early (made.Making (unmade.Frame name)) = omega arith
 early (made.Making (unmade.NoPlace w)) = omega arith
 
 module _ (text fun : List ℕ) (items : List Item) where
   -- what excludes causes of compiling, and where it has to that no function has the name
-  lifted : (n : ℕ) → n ≤ 11 → ((name : List ℕ) → 5 < n → HasNoExport text fun name → ⊥) → makings.Clear text n → Clear text fun items n
+  lifted : (n : ℕ) → n ≤ 10 → ((name : List ℕ) → 5 < n → HasNoExport text fun name → ⊥) → makings.Clear text n → Clear text fun items n
   lifted n few named clear (Compile r) lt c = clear r lt c
   lifted n few named clear (NoFunction name) lt c = named name lt c
   lifted n few named clear Items lt c = absurd (omega (arith, few, lt))
@@ -60,7 +59,6 @@ module _ (text fun : List ℕ) (items : List Item) where
     before_names (made.Unread u) lt c = types_as_read text p t u c
     before_names (made.Limit l) lt c = absurd (omega (arith, lt))
     before_names (made.Alarm a) lt c = absurd (omega (arith, lt))
-    before_names (made.Making (unmade.NoOperations at)) lt c = absurd (omega (arith, lt))
     before_names (made.Making (unmade.Frame name)) lt c = absurd (omega (arith, lt))
     before_names (made.Making (unmade.NoPlace w)) lt c = absurd (omega (arith, lt))
 
@@ -77,15 +75,15 @@ module _ (text fun : List ℕ) (items : List Item) where
           let soon = early r in
           record { cause = h.cause; first = lifted (makings.stage_of r) (omega (arith, soon)) (λ name lt c. has_function text fun items p t f found name c) h.first }
 
-      pub clear_too : makings.Clear text compiling.all_stages → Clear text fun items 11
-      clear_too clear = lifted 11 (omega arith) (λ name lt c. has_function text fun items p t f found name c) clear
+      pub clear_too : makings.Clear text compiling.all_stages → Clear text fun items 10
+      clear_too clear = lifted 10 (omega arith) (λ name lt c. has_function text fun items p t f found name c) clear
 
       -- ---- where all is made
-      module _ (clear : Clear text fun items 11) where
+      module _ (clear : Clear text fun items 10) where
         items_first : (length items ≡ length f.params → ⊥) → IsFirstCause text fun items Items
         items_first differ = record { cause = record { program = p; types = t; function = f; found = found; differ = differ }; first = clear }
 
-        before_met : length items ≡ length f.params → Clear text fun items 12
+        before_met : length items ≡ length f.params → Clear text fun items 11
         before_met many (Compile r) lt c = clear (Compile r) (early r) c
         before_met many (NoFunction name) lt c = clear (NoFunction name) (omega arith) c
         before_met many Items lt c = has_items text fun items p t f found many c

@@ -36,7 +36,7 @@ pub record Gives (Tells : Program → Fun → Compiled → Ran → Type 0) (text
 
 -- one past the last stage
 abbrev pub all_stages : ℕ
-all_stages = 13
+all_stages = 12
 
 -- what is told, where nothing refuses the call
 pub record IsDone (Tells : Program → Fun → Compiled → Ran → Type 0) (text fun : List ℕ)

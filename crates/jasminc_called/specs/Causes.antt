@@ -18,8 +18,8 @@ Cause text fun items (Unmet pre) = BreaksPrecondition text fun items pre
 abbrev pub stage_of : Refused → ℕ
 stage_of (Compile r) = makings.stage_of r
 stage_of (NoFunction name) = 5
-stage_of Items = 11
-stage_of (Unmet pre) = 12
+stage_of Items = 10
+stage_of (Unmet pre) = 11
 
 -- no stage before this one has a cause
 abbrev pub Clear : List ℕ → List ℕ → List Item → ℕ → Type 0

@@ -34,7 +34,7 @@ pub record IsMadeFor (text fun : List ℕ) (m : MadeFor) : Type 0 where
   pub found : export_named fun m.typed.program.funs ≡ Some function
   pub ready : IsReadyAt m.typed.program m.place
   pub are_made : AreMade m.typed.program m.functions
-  pub clear : (items : List Item) → Clear text fun items 11
+  pub clear : (items : List Item) → Clear text fun items 10
 
 -- what is made; or the first cause, whatever the items are
 abbrev pub MakingAnswers : List ℕ → List ℕ → Result MadeFor Refused → Type 0

@@ -34,21 +34,18 @@ none_here s os i le h = subst (All (IsNotAt s)) (take_all i os le) h
 -- ---- of all stages
 pub first_is_refusal : (os : List Outcome) (i : ℕ) → IsFirstRefusal os i → IsRefusal os i
 first_is_refusal os i (inl h) = (h.unmade, h.there)
-first_is_refusal os i (inr (inl h)) = (h.1.unmade, h.1.there)
-first_is_refusal os i (inr (inr h)) = (h.2.unmade, h.2.there)
+first_is_refusal os i (inr h) = (h.1.unmade, h.1.there)
 
-made_one : (o : Outcome) → IsNotAt stage.Operations o → IsNotAt stage.Frame o → IsNotAt stage.Places o → IsMadeOne o
-made_one (Made c) a b d = tt
-made_one (Not (unmade.NoOperations at)) a b d = absurd (false≢true (sym a))
-made_one (Not (unmade.Frame name)) a b d = absurd (false≢true (sym b))
-made_one (Not (unmade.NoPlace u)) a b d = absurd (false≢true (sym d))
+made_one : (o : Outcome) → IsNotAt stage.Frame o → IsNotAt stage.Places o → IsMadeOne o
+made_one (Made c) b d = tt
+made_one (Not (unmade.Frame name)) b d = absurd (false≢true (sym b))
+made_one (Not (unmade.NoPlace u)) b d = absurd (false≢true (sym d))
 
-pub all_made_ones : (os : List Outcome) → All (IsNotAt stage.Operations) os → All (IsNotAt stage.Frame) os → All (IsNotAt stage.Places) os → All IsMadeOne os
-all_made_ones [] a b d = All-nil IsMadeOne
-all_made_ones (o ∷ os) a b d =
-    All-cons IsMadeOne o os
-    (made_one o (All-head (IsNotAt stage.Operations) o os a) (All-head (IsNotAt stage.Frame) o os b) (All-head (IsNotAt stage.Places) o os d))
-    (all_made_ones os (All-tail (IsNotAt stage.Operations) o os a) (All-tail (IsNotAt stage.Frame) o os b) (All-tail (IsNotAt stage.Places) o os d))
+pub all_made_ones : (os : List Outcome) → All (IsNotAt stage.Frame) os → All (IsNotAt stage.Places) os → All IsMadeOne os
+all_made_ones [] b d = All-nil IsMadeOne
+all_made_ones (o ∷ os) b d =
+    All-cons IsMadeOne o os (made_one o (All-head (IsNotAt stage.Frame) o os b) (All-head (IsNotAt stage.Places) o os d))
+    (all_made_ones os (All-tail (IsNotAt stage.Frame) o os b) (All-tail (IsNotAt stage.Places) o os d))
 
 pub refusal_below : (os : List Outcome) (i : ℕ) → IsRefusal os i → i < length os
 refusal_below os i h = slice_get_within os i (Not h.0) h.1

@@ -5,7 +5,6 @@ use Rattle.std.proofs.lemmas.List.Elements.{All-contains, Contains-append_right,
 use Rattle.jz_tree.specs.Failure.{Failure}
 use Rattle.jz_tree.specs.Failure.TheVariants as failure
 use Rattle.jz_tree.specs.Failures.{IfRefused, IfAnswered}
-use Rattle.jz_tree.specs.Span.{Span}
 use Rattle.jz_tree.specs.declared.program.Fun.{Fun}
 use Rattle.jz_tree.specs.declared.program.Program.{Program}
 use Rattle.jz_typed_runs.specs.TypedTexts.{IsTypedText}
@@ -30,12 +29,12 @@ use Rattle.jasminc_compile.specs.declared.refused.Refused.{Refused}
 use Rattle.jasminc_compile.specs.declared.refused.Refused.TheVariants.{Unread, Limit, Alarm, Making}
 use Rattle.jasminc_compile.specs.declared.stages.Compilation.{Compilation}
 use Rattle.jasminc_compile.specs.SafeFunctions.{exports_of}
-use Rattle.jasminc_compile.specs.Refusals.{LacksOperations, IsTooLargeFun, LeavesUnplaced}
+use Rattle.jasminc_compile.specs.Refusals.{IsTooLargeFun, LeavesUnplaced}
 use Rattle.jasminc_compile.specs.Making.{AreMade, HasNone, IsFirstOf}
 use Rattle.jasminc_compile.specs.InnerMaking.{IsTold}
 use Rattle.jasminc_compile.specs.Causes.{IsUnmadeText, Clear, IsFirstCause}
 use Rattle.jasminc_compile.specs.Answers.{all_stages, IsDone, Answers}
-use Rattle.jasminc_compile.proofs.Telling.{each_not_lacking, each_not_large, each_not_unplaced}
+use Rattle.jasminc_compile.proofs.Telling.{each_not_large, each_not_unplaced}
 
 -- where no function of a list has a refusal of a kind, there is no first
 none_first : {A : Type 0} (Refuses : Fun → A → Type 0) (fs : List Fun) (a : A) → All (HasNone Refuses) fs → IsFirstOf Refuses fs a → ⊥
@@ -58,7 +57,6 @@ module _ (text : List ℕ) where
   before_reading u c (Unread v) lt h = first_unread text u v c lt h
   before_reading u c (Limit l) lt h = let e = unread_early u in absurd (omega (arith, e, lt))
   before_reading u c (Alarm a) lt h = let e = unread_early u in absurd (omega (arith, e, lt))
-  before_reading u c (Making (unmade.NoOperations at)) lt h = let e = unread_early u in absurd (omega (arith, e, lt))
   before_reading u c (Making (unmade.Frame name)) lt h = let e = unread_early u in absurd (omega (arith, e, lt))
   before_reading u c (Making (unmade.NoPlace w)) lt h = let e = unread_early u in absurd (omega (arith, e, lt))
 
@@ -70,7 +68,6 @@ module _ (text : List ℕ) where
     before_limits (Unread v) lt h = types_as_read text p t v h
     before_limits (Limit l) lt h = absurd (omega (arith, lt))
     before_limits (Alarm a) lt h = absurd (omega (arith, lt))
-    before_limits (Making (unmade.NoOperations at)) lt h = absurd (omega (arith, lt))
     before_limits (Making (unmade.Frame name)) lt h = absurd (omega (arith, lt))
     before_limits (Making (unmade.NoPlace w)) lt h = absurd (omega (arith, lt))
 
@@ -85,7 +82,6 @@ module _ (text : List ℕ) where
       before_alarms (Unread v) lt h = types_as_read text p t v h
       before_alarms (Limit l) lt h = no_limit l h
       before_alarms (Alarm a) lt h = absurd (omega (arith, lt))
-      before_alarms (Making (unmade.NoOperations at)) lt h = absurd (omega (arith, lt))
       before_alarms (Making (unmade.Frame name)) lt h = absurd (omega (arith, lt))
       before_alarms (Making (unmade.NoPlace w)) lt h = absurd (omega (arith, lt))
 
@@ -98,18 +94,12 @@ module _ (text : List ℕ) where
             safe_no_alarm p (record { typed = text_typed text p t; text = text_text text p t }) a safe
             (subst (λ (q : Program). HasAlarm q a) (types_one text h.program p h.types t) h.alarm)
 
-        before_operations : Clear text 8
-        before_operations (Unread v) lt h = types_as_read text p t v h
-        before_operations (Limit l) lt h = no_limit l h
-        before_operations (Alarm a) lt h = no_alarm a h
-        before_operations (Making (unmade.NoOperations at)) lt h = absurd (omega (arith, lt))
-        before_operations (Making (unmade.Frame name)) lt h = absurd (omega (arith, lt))
-        before_operations (Making (unmade.NoPlace w)) lt h = absurd (omega (arith, lt))
-
-        no_lack : All (HasNone (LacksOperations p)) (exports_of p.funs) → (at : Span) → IsUnmadeText text (unmade.NoOperations at) → ⊥
-        no_lack none at h =
-            none_first (LacksOperations p) (exports_of p.funs) at none
-            (subst (λ (q : Program). IsFirstOf (LacksOperations q) (exports_of q.funs) at) (types_one text h.program p h.types t) h.unmade)
+        before_frames : Clear text 8
+        before_frames (Unread v) lt h = types_as_read text p t v h
+        before_frames (Limit l) lt h = no_limit l h
+        before_frames (Alarm a) lt h = no_alarm a h
+        before_frames (Making (unmade.Frame name)) lt h = absurd (omega (arith, lt))
+        before_frames (Making (unmade.NoPlace w)) lt h = absurd (omega (arith, lt))
 
         no_frame : All (HasNone (IsTooLargeFun p)) (exports_of p.funs) → (name : List ℕ) → IsUnmadeText text (unmade.Frame name) → ⊥
         no_frame none name h =
@@ -121,33 +111,22 @@ module _ (text : List ℕ) where
             none_first (LeavesUnplaced p) (exports_of p.funs) w none
             (subst (λ (q : Program). IsFirstOf (LeavesUnplaced q) (exports_of q.funs) w) (types_one text h.program p h.types t) h.unmade)
 
-        before_frames : All (HasNone (LacksOperations p)) (exports_of p.funs) → Clear text 9
-        before_frames none (Unread v) lt h = types_as_read text p t v h
-        before_frames none (Limit l) lt h = no_limit l h
-        before_frames none (Alarm a) lt h = no_alarm a h
-        before_frames none (Making (unmade.NoOperations at)) lt h = no_lack none at h
-        before_frames none (Making (unmade.Frame name)) lt h = absurd (omega (arith, lt))
-        before_frames none (Making (unmade.NoPlace w)) lt h = absurd (omega (arith, lt))
-
-        before_places : All (HasNone (LacksOperations p)) (exports_of p.funs) → All (HasNone (IsTooLargeFun p)) (exports_of p.funs) → Clear text 10
-        before_places lack none (Unread v) lt h = types_as_read text p t v h
-        before_places lack none (Limit l) lt h = no_limit l h
-        before_places lack none (Alarm a) lt h = no_alarm a h
-        before_places lack none (Making (unmade.NoOperations at)) lt h = no_lack lack at h
-        before_places lack none (Making (unmade.Frame name)) lt h = no_frame none name h
-        before_places lack none (Making (unmade.NoPlace w)) lt h = absurd (omega (arith, lt))
+        before_places : All (HasNone (IsTooLargeFun p)) (exports_of p.funs) → Clear text 9
+        before_places none (Unread v) lt h = types_as_read text p t v h
+        before_places none (Limit l) lt h = no_limit l h
+        before_places none (Alarm a) lt h = no_alarm a h
+        before_places none (Making (unmade.Frame name)) lt h = no_frame none name h
+        before_places none (Making (unmade.NoPlace w)) lt h = absurd (omega (arith, lt))
 
         pub making_first : (u : Unmade) → IsTold p u → IsFirstCause text (Making u)
-        making_first (unmade.NoOperations at) h = record { cause = record { program = p; types = t; unmade = h.has }; first = before_operations }
-        making_first (unmade.Frame name) h = record { cause = record { program = p; types = t; unmade = h.has }; first = before_frames h.behind }
-        making_first (unmade.NoPlace w) h = record { cause = record { program = p; types = t; unmade = h.has }; first = before_places h.behind.0 h.behind.1 }
+        making_first (unmade.Frame name) h = record { cause = record { program = p; types = t; unmade = h.has }; first = before_frames }
+        making_first (unmade.NoPlace w) h = record { cause = record { program = p; types = t; unmade = h.has }; first = before_places h.behind }
 
         module _ (made : Compilation) (are : AreMade p made.functions) where
           before_all : Clear text all_stages
           before_all (Unread v) lt h = types_as_read text p t v h
           before_all (Limit l) lt h = no_limit l h
           before_all (Alarm a) lt h = no_alarm a h
-          before_all (Making (unmade.NoOperations at)) lt h = no_lack (each_not_lacking p (exports_of p.funs) made.functions are) at h
           before_all (Making (unmade.Frame name)) lt h = no_frame (each_not_large p (exports_of p.funs) made.functions are) name h
           before_all (Making (unmade.NoPlace w)) lt h = no_place (each_not_unplaced p (exports_of p.funs) made.functions are) w h
 

@@ -23,13 +23,11 @@ use Rattle.jz_change.specs.Views.{change_of}
 use Rattle.jz_correct.specs.Registers.{argument_registers, result_registers}
 use Rattle.jz_place.specs.Bodies.{body_of}
 use Rattle.jz_homes.specs.Homes.{Homes}
-use Rattle.jz_row_operations.specs.Bodies.{IsLowered}
+use Rattle.jz_every_row.specs.Bodies.{IsLowered}
 use Rattle.jz_lowered.specs.Functions.{ArePassed, AreKinds}
 use Rattle.jz_operands.specs.TableHomes.{homes_by}
 use Rattle.jz_lowering.specs.declared.functions.LoweredFun.{LoweredFun}
-use Rattle.jz_lowering.specs.Parts.{parts_in, IsFirstWithout}
 use Rattle.jz_lowering.specs.Functions.{plain_body, homes_for, IsFunctionLowered}
-use Rattle.jz_without_code.specs.Without.{IsWithoutCode}
 use Rattle.jz_code.specs.declared.code.NoCode.{NoCode}
 use Rattle.jz_code.specs.declared.code.NoCode.TheVariants as no
 use Rattle.jz_whole_pipeline.specs.Refused.{stack_end, IsCodeless}
@@ -59,12 +57,6 @@ module _ (p : Program) (f g h : Fun) (k l : Change) (m n : ℕ) (x : IsExpansion
 
   homes_same : homes_for g ≡ homes_for h
   homes_same = ap (λ (vs : List Var). homes_by (with_vars no_homes vs).entries) variables_same
-
-  -- the first statement without operations of the one is that of the other
-  pub lacking_too : (at : Span) → IsWithoutCode g at → IsWithoutCode h at
-  lacking_too at w =
-      subst (λ (b : Block). IsFirstWithout (homes_for h) (parts_in b) at) (expansions_same one_unrolling p f g h k l m n x y).same.body
-      (subst (λ (home : Homes). IsFirstWithout home (parts_in (plain_body g)) at) homes_same w)
 
   -- what is the function over variables of the one is that of the other
   lowered_too : (made : LoweredFun) (c : Change) → IsFunctionLowered g made c → IsFunctionLowered h made c

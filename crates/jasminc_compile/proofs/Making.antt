@@ -1,18 +1,14 @@
 -- What one safe export function comes to.
-use Rattle.std.proofs.Common.{◌≡◌, ℕ, List, Some, None, ap, ◌∙◌, sym, subst}
+use Rattle.std.proofs.Common.{◌≡◌, ℕ, List, Some, ap, ◌∙◌, sym, subst}
 use Rattle.std.specs.Prelude.{slice_get}
 use Rattle.jz_io.specs.declared.verdict.Ct.{Ct}
 use Rattle.jz_io.specs.declared.verdict.Ct.TheVariants as ct
-use Rattle.jz_tree.specs.Span.{Span}
 use Rattle.jz_tree.specs.declared.program.Fun.{Fun}
 use Rattle.jz_tree.specs.declared.program.Program.{Program}
 use Rattle.jz_alloc.specs.declared.placing.NoPlace as numbered
 use Rattle.jz_change.specs.Views.{change_of}
 use Rattle.jz_expansion.specs.declared.expanded.Expanded.{Expanded}
 use Rattle.jz_expansion.proofs.Followed.{same_at}
-use Rattle.jz_lowering.specs.Parts.{parts_in}
-use Rattle.jz_lowering.specs.Functions.{plain_body, homes_for}
-use Rattle.jz_lowering.proofs.CodeOfParts.{never_both}
 use Rattle.jz_code.specs.declared.code.NoCode.TheVariants as no
 use Rattle.jz_listing.specs.declared.compiled.Compiled.{Compiled}
 use Rattle.jz_whole_pipeline.specs.NotCompiled.{NotCompiled}
@@ -34,10 +30,8 @@ use Rattle.jasminc_compile.specs.declared.outcome.Unmade.{Unmade}
 use Rattle.jasminc_compile.specs.declared.outcome.Unmade.TheVariants as unmade
 use Rattle.jasminc_compile.specs.declared.safety.SafeFun.{SafeFun}
 use Rattle.jasminc_compile.specs.SafeFunctions.{IsSafeFun}
-use Rattle.jasminc_compile.specs.Refusals.{LacksOperations}
-use Rattle.jasminc_compile.specs.Making.{HasNone}
-use Rattle.jasminc_compile.specs.InnerMaking.{IsCompiledFrom, IsRefusedAt, IsNamedAt, LacksAt, IsNameAt, IsUnmadeAt, IsOutcomeAt}
-use Rattle.jasminc_compile.proofs.Heads.{held_same, lacking_too}
+use Rattle.jasminc_compile.specs.InnerMaking.{IsCompiledFrom, IsRefusedAt, IsNamedAt, IsNameAt, IsUnmadeAt, IsOutcomeAt}
+use Rattle.jasminc_compile.proofs.Heads.{held_same}
 
 -- what a listing says of an expansion is said of what is compiled
 pub said_there : (e x : Expanded) (t u : Ct) → x ≡ e → u ≡ t → IsSaidOf x.fun t → IsSaidOf e.fun u
@@ -84,35 +78,13 @@ refused_there p f s why h r = record {
 }
 
 pub outcome_not : (p : Program) (place : ℕ) (u : Unmade) → IsUnmadeAt p place u → IsOutcomeAt p place (Not u)
-outcome_not p place u h = (h.function, h.there, (h.unmade, h.behind))
+outcome_not p place u h = (h.function, h.there, h.unmade)
 
 module _ (p : Program) (place : ℕ) where
-  pub no_operations : (at : Span) → LacksAt p place (Some at) → IsUnmadeAt p place (unmade.NoOperations at)
-  no_operations at r = record {
+  pub too_large : (name : List ℕ) → IsNameAt p place name → IsRefusedAt p place (uncompiled.Code no.Frame) → IsUnmadeAt p place (unmade.Frame name)
+  too_large name (f, there, is) r = record {
     function = r.at.source;
     there = r.at.there;
-    unmade = record {
-      expanded = r.expanded.fun;
-      change = change_of r.expanded.change;
-      count = r.expanded.count;
-      expansion = r.at.expansion;
-      lacks = r.lacks;
-    };
-    behind = tt;
-  }
-
-  none_lacks : (f : Fun) → slice_get p.funs place ≡ Some f → LacksAt p place None → HasNone (LacksOperations p) f
-  none_lacks f there r = λ at x.
-      let g = r.expanded.fun in
-      let own = expansion_at p place f r.expanded there r.at in
-      never_both (homes_for g) (parts_in (plain_body g)) at r.lacks
-      (lacking_too p f x.expanded g x.change (change_of r.expanded.change) x.count r.expanded.count x.expansion own at x.lacks)
-
-  pub too_large : (name : List ℕ) → IsNameAt p place name → LacksAt p place None → IsRefusedAt p place (uncompiled.Code no.Frame) → IsUnmadeAt p place (unmade.Frame name)
-  too_large name (f, there, is) l r = record {
-    function = r.at.source;
-    there = r.at.there;
-    behind = none_lacks r.at.source r.at.there l;
     unmade = (
       is ∙ ap (λ (g : Fun). g.name) (same_at p place f r.at.source there r.at.there),
       record {
@@ -131,7 +103,6 @@ module _ (p : Program) (place : ℕ) where
       record {
         function = r.at.source;
         there = r.at.there;
-        behind = tt;
         unmade = record {
           expanded = r.expanded.fun;
           change = change_of r.expanded.change;

@@ -8,8 +8,6 @@ use Rattle.std.proofs.lemmas.List.Elements.{All-nil, All-cons, All-head, All-tai
 use Rattle.std.proofs.lemmas.Option.{slice_get_within, get_or_from_slice_get}
 use Rattle.jz_tree.specs.declared.program.Fun.{Fun}
 use Rattle.jz_tree.specs.declared.program.Program.{Program}
-use Rattle.jz_change.specs.Views.{change_of}
-use Rattle.jz_lowering.proofs.FunctionLemmas.{lowered_have_code}
 use Rattle.jz_code.specs.declared.code.NoCode.TheVariants as no
 use Rattle.jz_whole_pipeline.specs.Refused.{stack_end}
 use Rattle.jz_listing.specs.declared.compiled.Compiled.{Compiled}
@@ -20,20 +18,14 @@ use Rattle.jasminc_compile.specs.declared.outcome.Unmade.{Unmade}
 use Rattle.jasminc_compile.specs.declared.outcome.Unmade.TheVariants as unmade
 use Rattle.jasminc_compile.specs.declared.settling.Stage.TheVariants as stage
 use Rattle.jasminc_compile.specs.SafeFunctions.{exports_of}
-use Rattle.jasminc_compile.specs.Refusals.{LacksOperations, IsTooLargeFun, LeavesUnplaced}
+use Rattle.jasminc_compile.specs.Refusals.{IsTooLargeFun, LeavesUnplaced}
 use Rattle.jasminc_compile.specs.Making.{IsMade, HasNone, IsFirstOf}
 use Rattle.jasminc_compile.specs.InnerMaking.{IsOutcome, AreOutcomes, IsTold}
 use Rattle.jasminc_compile.specs.InnerSettling.{is_of, IsNotAt, IsFirstRefusal, IsFirstUnmade}
-use Rattle.jasminc_compile.proofs.Heads.{end_same, lacking_too, codeless_too}
+use Rattle.jasminc_compile.proofs.Heads.{end_same, codeless_too}
 
 module _ (p : Program) where
   -- ---- what is made is not refused
-  pub made_not_lacking : (f : Fun) (c : Compiled) → IsMade p f c → HasNone (LacksOperations p) f
-  made_not_lacking f c h = λ at x.
-      let l = h.bytes.lowered in
-      lowered_have_code h.expanded l (change_of l.change) at h.bytes.is_lowered
-      (lacking_too p f x.expanded h.expanded x.change h.change x.count h.count x.expansion h.from.expansion at x.lacks)
-
   pub made_not_large : (f : Fun) (c : Compiled) → IsMade p f c → HasNone (IsTooLargeFun p) f
   made_not_large f c h = λ name large.
       let t = large.1 in
@@ -44,12 +36,6 @@ module _ (p : Program) where
       h.placed (no.Place left.refusal)
       (codeless_too p f left.expanded h.expanded left.change h.change left.count h.count left.expansion h.from.expansion (no.Place left.refusal) left.codeless)
 
-  unplaced_not_lacking : (f : Fun) (u : Unplaced) → LeavesUnplaced p f u → HasNone (LacksOperations p) f
-  unplaced_not_lacking f u left = λ at x.
-      let h = left.codeless.1 in
-      lowered_have_code left.expanded h.lowered (change_of h.lowered.change) at h.is_lowered
-      (lacking_too p f x.expanded left.expanded x.change left.change x.count left.count x.expansion left.expansion at x.lacks)
-
   unplaced_not_large : (f : Fun) (u : Unplaced) → LeavesUnplaced p f u → HasNone (IsTooLargeFun p) f
   unplaced_not_large f u left = λ name large.
       let t = large.1 in
@@ -58,53 +44,32 @@ module _ (p : Program) where
       let within = left.codeless.0 in
       absurd (omega (arith, same, over, within))
 
-  not_lacking : (f : Fun) (o : Outcome) → IsOutcome p f o → IsNotAt stage.Operations o → HasNone (LacksOperations p) f
-  not_lacking f (Made c) h a = made_not_lacking f c h
-  not_lacking f (Not (unmade.NoOperations at)) h a = absurd (false≢true (sym a))
-  not_lacking f (Not (unmade.Frame name)) h a = h.1
-  not_lacking f (Not (unmade.NoPlace u)) h a = unplaced_not_lacking f u h.0
+  not_large : (f : Fun) (o : Outcome) → IsOutcome p f o → IsNotAt stage.Frame o → HasNone (IsTooLargeFun p) f
+  not_large f (Made c) h b = made_not_large f c h
+  not_large f (Not (unmade.Frame name)) h b = absurd (false≢true (sym b))
+  not_large f (Not (unmade.NoPlace u)) h b = unplaced_not_large f u h
 
-  not_large : (f : Fun) (o : Outcome) → IsOutcome p f o → IsNotAt stage.Operations o → IsNotAt stage.Frame o → HasNone (IsTooLargeFun p) f
-  not_large f (Made c) h a b = made_not_large f c h
-  not_large f (Not (unmade.NoOperations at)) h a b = absurd (false≢true (sym a))
-  not_large f (Not (unmade.Frame name)) h a b = absurd (false≢true (sym b))
-  not_large f (Not (unmade.NoPlace u)) h a b = unplaced_not_large f u h.0
-
-  not_unplaced : (f : Fun) (o : Outcome) → IsOutcome p f o → IsNotAt stage.Operations o → IsNotAt stage.Frame o → IsNotAt stage.Places o → HasNone (LeavesUnplaced p) f
-  not_unplaced f (Made c) h a b d = made_not_unplaced f c h
-  not_unplaced f (Not (unmade.NoOperations at)) h a b d = absurd (false≢true (sym a))
-  not_unplaced f (Not (unmade.Frame name)) h a b d = absurd (false≢true (sym b))
-  not_unplaced f (Not (unmade.NoPlace u)) h a b d = absurd (false≢true (sym d))
+  not_unplaced : (f : Fun) (o : Outcome) → IsOutcome p f o → IsNotAt stage.Frame o → IsNotAt stage.Places o → HasNone (LeavesUnplaced p) f
+  not_unplaced f (Made c) h b d = made_not_unplaced f c h
+  not_unplaced f (Not (unmade.Frame name)) h b d = absurd (false≢true (sym b))
+  not_unplaced f (Not (unmade.NoPlace u)) h b d = absurd (false≢true (sym d))
 
   -- ---- each function of a list
   abbrev Outcomes : List Fun → List Outcome → Type 0
   Outcomes fs os = AllZip (IsOutcome p) fs os
 
-  none_lacking : (fs : List Fun) (os : List Outcome) → Outcomes fs os → All (IsNotAt stage.Operations) os → All (HasNone (LacksOperations p)) fs
-  none_lacking [] os h a = All-nil (HasNone (LacksOperations p))
-  none_lacking (f ∷ fs) [] h a = absurd h
-  none_lacking (f ∷ fs) (o ∷ os) h a =
-      All-cons (HasNone (LacksOperations p)) f fs (not_lacking f o h.0 (All-head (IsNotAt stage.Operations) o os a)) (none_lacking fs os h.1 (All-tail (IsNotAt stage.Operations) o os a))
+  none_large : (fs : List Fun) (os : List Outcome) → Outcomes fs os → All (IsNotAt stage.Frame) os → All (HasNone (IsTooLargeFun p)) fs
+  none_large [] os h b = All-nil (HasNone (IsTooLargeFun p))
+  none_large (f ∷ fs) [] h b = absurd h
+  none_large (f ∷ fs) (o ∷ os) h b =
+      All-cons (HasNone (IsTooLargeFun p)) f fs (not_large f o h.0 (All-head (IsNotAt stage.Frame) o os b)) (none_large fs os h.1 (All-tail (IsNotAt stage.Frame) o os b))
 
-  none_large : (fs : List Fun) (os : List Outcome) → Outcomes fs os → All (IsNotAt stage.Operations) os → All (IsNotAt stage.Frame) os → All (HasNone (IsTooLargeFun p)) fs
-  none_large [] os h a b = All-nil (HasNone (IsTooLargeFun p))
-  none_large (f ∷ fs) [] h a b = absurd h
-  none_large (f ∷ fs) (o ∷ os) h a b =
-      All-cons (HasNone (IsTooLargeFun p)) f fs (not_large f o h.0 (All-head (IsNotAt stage.Operations) o os a) (All-head (IsNotAt stage.Frame) o os b))
-      (none_large fs os h.1 (All-tail (IsNotAt stage.Operations) o os a) (All-tail (IsNotAt stage.Frame) o os b))
-
-  none_unplaced : (fs : List Fun) (os : List Outcome) → Outcomes fs os → All (IsNotAt stage.Operations) os → All (IsNotAt stage.Frame) os → All (IsNotAt stage.Places) os → All (HasNone (LeavesUnplaced p)) fs
-  none_unplaced [] os h a b d = All-nil (HasNone (LeavesUnplaced p))
-  none_unplaced (f ∷ fs) [] h a b d = absurd h
-  none_unplaced (f ∷ fs) (o ∷ os) h a b d =
-      All-cons (HasNone (LeavesUnplaced p)) f fs
-      (not_unplaced f o h.0 (All-head (IsNotAt stage.Operations) o os a) (All-head (IsNotAt stage.Frame) o os b) (All-head (IsNotAt stage.Places) o os d))
-      (none_unplaced fs os h.1 (All-tail (IsNotAt stage.Operations) o os a) (All-tail (IsNotAt stage.Frame) o os b) (All-tail (IsNotAt stage.Places) o os d))
-
-  pub each_not_lacking : (fs : List Fun) (cs : List Compiled) → AllZip (IsMade p) fs cs → All (HasNone (LacksOperations p)) fs
-  each_not_lacking [] cs h = All-nil (HasNone (LacksOperations p))
-  each_not_lacking (f ∷ fs) [] h = absurd h
-  each_not_lacking (f ∷ fs) (c ∷ cs) h = All-cons (HasNone (LacksOperations p)) f fs (made_not_lacking f c h.0) (each_not_lacking fs cs h.1)
+  none_unplaced : (fs : List Fun) (os : List Outcome) → Outcomes fs os → All (IsNotAt stage.Frame) os → All (IsNotAt stage.Places) os → All (HasNone (LeavesUnplaced p)) fs
+  none_unplaced [] os h b d = All-nil (HasNone (LeavesUnplaced p))
+  none_unplaced (f ∷ fs) [] h b d = absurd h
+  none_unplaced (f ∷ fs) (o ∷ os) h b d =
+      All-cons (HasNone (LeavesUnplaced p)) f fs (not_unplaced f o h.0 (All-head (IsNotAt stage.Frame) o os b) (All-head (IsNotAt stage.Places) o os d))
+      (none_unplaced fs os h.1 (All-tail (IsNotAt stage.Frame) o os b) (All-tail (IsNotAt stage.Places) o os d))
 
   pub each_not_large : (fs : List Fun) (cs : List Compiled) → AllZip (IsMade p) fs cs → All (HasNone (IsTooLargeFun p)) fs
   each_not_large [] cs h = All-nil (HasNone (IsTooLargeFun p))
@@ -151,35 +116,22 @@ module _ (p : Program) where
     abbrev fs : List Fun
     fs = exports_of p.funs
 
-    told_operations : (u : Unmade) → is_of stage.Operations u ≡ true → slice_get os i ≡ Some (Not u) → All (IsNotAt stage.Operations) (take i os) → IsTold p u
-    told_operations (unmade.NoOperations at) e there a =
-        let z = outcome_at fs os i (Not (unmade.NoOperations at)) h there in
-        record {
-          has = first_of (LacksOperations p) fs i z.0 at z.1 (none_lacking (take i fs) (take i os) (taken_too fs os i h) a) z.2.0;
-          behind = tt;
-        }
-    told_operations (unmade.Frame name) e there a = absurd (false≢true e)
-    told_operations (unmade.NoPlace u) e there a = absurd (false≢true e)
-
-    told_frame : (u : Unmade) → is_of stage.Frame u ≡ true → slice_get os i ≡ Some (Not u) → All (IsNotAt stage.Operations) os → All (IsNotAt stage.Frame) (take i os) → IsTold p u
-    told_frame (unmade.NoOperations at) e there a b = absurd (false≢true e)
-    told_frame (unmade.Frame name) e there a b =
+    told_frame : (u : Unmade) → is_of stage.Frame u ≡ true → slice_get os i ≡ Some (Not u) → All (IsNotAt stage.Frame) (take i os) → IsTold p u
+    told_frame (unmade.Frame name) e there b =
         let z = outcome_at fs os i (Not (unmade.Frame name)) h there in
         record {
-          has = first_of (IsTooLargeFun p) fs i z.0 name z.1 (none_large (take i fs) (take i os) (taken_too fs os i h) (taken_all (IsNotAt stage.Operations) os i a) b) z.2.0;
-          behind = none_lacking fs os h a;
+          has = first_of (IsTooLargeFun p) fs i z.0 name z.1 (none_large (take i fs) (take i os) (taken_too fs os i h) b) z.2;
+          behind = tt;
         }
-    told_frame (unmade.NoPlace u) e there a b = absurd (false≢true e)
+    told_frame (unmade.NoPlace u) e there b = absurd (false≢true e)
 
-    told_place : (u : Unmade) → is_of stage.Places u ≡ true → slice_get os i ≡ Some (Not u) → All (IsNotAt stage.Operations) os → All (IsNotAt stage.Frame) os → All (IsNotAt stage.Places) (take i os) → IsTold p u
-    told_place (unmade.NoOperations at) e there a b d = absurd (false≢true e)
-    told_place (unmade.Frame name) e there a b d = absurd (false≢true e)
-    told_place (unmade.NoPlace u) e there a b d =
+    told_place : (u : Unmade) → is_of stage.Places u ≡ true → slice_get os i ≡ Some (Not u) → All (IsNotAt stage.Frame) os → All (IsNotAt stage.Places) (take i os) → IsTold p u
+    told_place (unmade.Frame name) e there b d = absurd (false≢true e)
+    told_place (unmade.NoPlace u) e there b d =
         let z = outcome_at fs os i (Not (unmade.NoPlace u)) h there in
         record {
-          has = first_of (LeavesUnplaced p) fs i z.0 u z.1
-              (none_unplaced (take i fs) (take i os) (taken_too fs os i h) (taken_all (IsNotAt stage.Operations) os i a) (taken_all (IsNotAt stage.Frame) os i b) d) z.2.0;
-          behind = (none_lacking fs os h a, none_large fs os h a b);
+          has = first_of (LeavesUnplaced p) fs i z.0 u z.1 (none_unplaced (take i fs) (take i os) (taken_too fs os i h) (taken_all (IsNotAt stage.Frame) os i b) d) z.2;
+          behind = none_large fs os h b;
         }
 
   one_refusal : (os : List Outcome) (i : ℕ) (u w : Unmade) → slice_get os i ≡ Some (Not u) → slice_get os i ≡ Some (Not w) → w ≡ u
@@ -189,8 +141,5 @@ module _ (p : Program) where
   told os u h first = by first.first
     where
       by : IsFirstRefusal os first.place → IsTold p u
-      by (inl k) = told_operations os h first.place u (subst (λ (w : Unmade). is_of stage.Operations w ≡ true) (one_refusal os first.place u k.unmade first.there k.there) k.here) first.there k.earlier
-      by (inr (inl k)) =
-          told_frame os h first.place u (subst (λ (w : Unmade). is_of stage.Frame w ≡ true) (one_refusal os first.place u k.1.unmade first.there k.1.there) k.1.here) first.there k.0 k.1.earlier
-      by (inr (inr k)) =
-          told_place os h first.place u (subst (λ (w : Unmade). is_of stage.Places w ≡ true) (one_refusal os first.place u k.2.unmade first.there k.2.there) k.2.here) first.there k.0 k.1 k.2.earlier
+      by (inl k) = told_frame os h first.place u (subst (λ (w : Unmade). is_of stage.Frame w ≡ true) (one_refusal os first.place u k.unmade first.there k.there) k.here) first.there k.earlier
+      by (inr k) = told_place os h first.place u (subst (λ (w : Unmade). is_of stage.Places w ≡ true) (one_refusal os first.place u k.1.unmade first.there k.1.there) k.1.here) first.there k.0 k.1.earlier

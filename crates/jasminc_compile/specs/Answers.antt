@@ -17,7 +17,7 @@ pub record Gives (text : List ℕ) (made : Compilation) : Type 0 where
 
 -- one past the last stage
 abbrev pub all_stages : ℕ
-all_stages = 11
+all_stages = 10
 
 -- the functions, where nothing refuses them
 pub record IsDone (text : List ℕ) (made : Compilation) : Type 0 where

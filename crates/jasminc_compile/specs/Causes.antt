@@ -23,11 +23,10 @@ Cause text (Alarm a) = GivesAlarm text a
 Cause text (Making u) = IsUnmadeText text u
 
 abbrev pub making_stage : Unmade → ℕ
-making_stage (unmade.NoOperations at) = 8
-making_stage (unmade.Frame name) = 9
-making_stage (unmade.NoPlace u) = 10
+making_stage (unmade.Frame name) = 8
+making_stage (unmade.NoPlace u) = 9
 
--- the stages in their order, by their numbers: reading, limits, alarms, operations, frames, places
+-- the stages in their order, by their numbers: reading, limits, alarms, frames, places
 abbrev pub stage_of : Refused → ℕ
 stage_of (Unread u) = unread_stage u
 stage_of (Limit l) = 6

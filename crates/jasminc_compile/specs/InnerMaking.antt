@@ -1,7 +1,6 @@
 -- What one safe export function comes to, and what that says of all.
-use Rattle.std.specs.Prelude.{◌≡◌, ◌≤◌, ℕ, List, All, Option, Some, slice_get, ⊤}
+use Rattle.std.specs.Prelude.{◌≡◌, ◌≤◌, ℕ, List, All, Some, slice_get, ⊤}
 use Rattle.std.specs.List.{AllZip}
-use Rattle.jz_tree.specs.Span.{Span}
 use Rattle.jz_tree.specs.declared.program.Fun.{Fun}
 use Rattle.jz_tree.specs.declared.program.Program.{Program}
 use Rattle.jz_alloc.specs.declared.placing.NoPlace as numbered
@@ -12,7 +11,6 @@ use Rattle.jz_listing.specs.declared.compiled.Compiled.{Compiled}
 use Rattle.jz_whole_pipeline.specs.NotCompiled.{NotCompiled}
 use Rattle.jz_whole_pipeline.specs.Made.{IsMadeOf}
 use Rattle.jz_declared.specs.Declared.{held_of}
-use Rattle.jz_without_code.specs.Without.{FirstOrAll}
 use Rattle.jz_unplaced.specs.declared.unplaced.Unplaced.{Unplaced}
 use Rattle.jz_unplaced.specs.Names.{refusal_of}
 use Rattle.jz_verdict.specs.Said.{IsSaidOf}
@@ -23,7 +21,7 @@ use Rattle.jasminc_compile.specs.declared.outcome.Unmade.{Unmade}
 use Rattle.jasminc_compile.specs.declared.outcome.Unmade.TheVariants as unmade
 use Rattle.jasminc_compile.specs.declared.safety.SafeFun.{SafeFun}
 use Rattle.jasminc_compile.specs.SafeFunctions.{exports_of, IsSafeFun}
-use Rattle.jasminc_compile.specs.Refusals.{LacksOperations, IsTooLargeFun, IsUnmade}
+use Rattle.jasminc_compile.specs.Refusals.{IsTooLargeFun, IsUnmade}
 use Rattle.jasminc_compile.specs.Making.{IsMade, HasNone, HasUnmade}
 
 -- what is promised of the code of an expansion
@@ -48,30 +46,18 @@ pub record IsNamedAt (p : Program) (place : ℕ) (n : numbered.NoPlace) (u : Unp
   pub at : IsExpandedAt p place expanded
   pub named : u ≡ refusal_of (held_of expanded.fun) n
 
--- the first statement of an expansion of it without operations, or that all have them
-pub record LacksAt (p : Program) (place : ℕ) (first : Option Span) : Type 0 where
-  pub expanded : Expanded
-  pub at : IsExpandedAt p place expanded
-  pub lacks : FirstOrAll expanded.fun first
-
 abbrev pub IsNameAt : Program → ℕ → List ℕ → Type 0
 IsNameAt p place name = (f : Fun) × (slice_get p.funs place ≡ Some f) × (name ≡ f.name)
-
--- where a frame is too large, no statement lacks operations
-abbrev pub IsBehindOperations : Program → Fun → Unmade → Type 0
-IsBehindOperations p f (unmade.Frame name) = HasNone (LacksOperations p) f
-IsBehindOperations p f u = ⊤
 
 pub record IsUnmadeAt (p : Program) (place : ℕ) (u : Unmade) : Type 0 where
   pub function : Fun
   pub there : slice_get p.funs place ≡ Some function
   pub unmade : IsUnmade p function u
-  pub behind : IsBehindOperations p function u
 
 -- ---- outcomes
 abbrev pub IsOutcome : Program → Fun → Outcome → Type 0
 IsOutcome p f (Made c) = IsMade p f c
-IsOutcome p f (Not u) = IsUnmade p f u × IsBehindOperations p f u
+IsOutcome p f (Not u) = IsUnmade p f u
 
 abbrev pub IsSafeSomewhere : Program → SafeFun → Type 0
 IsSafeSomewhere p s = (f : Fun) × IsSafeFun p f s
@@ -84,13 +70,10 @@ AreOutcomes p os = AllZip (IsOutcome p) (exports_of p.funs) os
 
 -- ---- what is told
 
--- where a frame is too large, no statement lacks operations; where a variable has no place, neither
+-- where a variable has no place, no frame is too large
 abbrev pub IsBehindOthers : Program → Unmade → Type 0
-IsBehindOthers p (unmade.NoOperations at) = ⊤
-IsBehindOthers p (unmade.Frame name) = All (HasNone (LacksOperations p)) (exports_of p.funs)
-IsBehindOthers p (unmade.NoPlace u) =
-    All (HasNone (LacksOperations p)) (exports_of p.funs)
-    × All (HasNone (IsTooLargeFun p)) (exports_of p.funs)
+IsBehindOthers p (unmade.Frame name) = ⊤
+IsBehindOthers p (unmade.NoPlace u) = All (HasNone (IsTooLargeFun p)) (exports_of p.funs)
 
 pub record IsTold (p : Program) (u : Unmade) : Type 0 where
   pub has : HasUnmade p u

@@ -8,23 +8,15 @@ use Rattle.jasminc_compile.specs.declared.settling.Stage.{Stage}
 use Rattle.jasminc_compile.specs.declared.settling.Stage.TheVariants as stage
 
 -- the stage of a refusal is this one
-abbrev pub is_operations : Stage → Bool
-is_operations stage.Operations = true
-is_operations stage.Frame = false
-is_operations stage.Places = false
-
 abbrev pub is_frame : Stage → Bool
-is_frame stage.Operations = false
 is_frame stage.Frame = true
 is_frame stage.Places = false
 
 abbrev pub is_places : Stage → Bool
-is_places stage.Operations = false
 is_places stage.Frame = false
 is_places stage.Places = true
 
 abbrev pub is_of : Stage → Unmade → Bool
-is_of s (unmade.NoOperations at) = is_operations s
 is_of s (unmade.Frame name) = is_frame s
 is_of s (unmade.NoPlace u) = is_places s
 
@@ -54,10 +46,7 @@ pub record IsFirstAt (s : Stage) (os : List Outcome) (i : ℕ) : Type 0 where
 -- it is the first of the first stage that refuses one
 abbrev pub IsFirstRefusal : List Outcome → ℕ → Type 0
 IsFirstRefusal os i =
-    IsFirstAt stage.Operations os i
-    ⊎ ((All (IsNotAt stage.Operations) os × IsFirstAt stage.Frame os i)
-    ⊎ (All (IsNotAt stage.Operations) os × All (IsNotAt stage.Frame) os
-    × IsFirstAt stage.Places os i))
+    IsFirstAt stage.Frame os i ⊎ (All (IsNotAt stage.Frame) os × IsFirstAt stage.Places os i)
 
 pub record IsFirstUnmade (os : List Outcome) (u : Unmade) : Type 0 where
   pub place : ℕ

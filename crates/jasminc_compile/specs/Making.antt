@@ -17,7 +17,7 @@ use Rattle.jz_whole_pipeline.specs.Correctness.{HasPlaces}
 use Rattle.jasminc_compile.specs.declared.outcome.Unmade.{Unmade}
 use Rattle.jasminc_compile.specs.declared.outcome.Unmade.TheVariants as unmade
 use Rattle.jasminc_compile.specs.SafeFunctions.{exports_of}
-use Rattle.jasminc_compile.specs.Refusals.{LacksOperations, IsTooLargeFun, LeavesUnplaced}
+use Rattle.jasminc_compile.specs.Refusals.{IsTooLargeFun, LeavesUnplaced}
 
 -- ---- what is made
 
@@ -60,6 +60,5 @@ pub record IsFirstOf {A : Type 0} (Refuses : Fun → A → Type 0) (funs : List 
     pub here : Refuses function a
 
 abbrev pub HasUnmade : Program → Unmade → Type 0
-HasUnmade p (unmade.NoOperations at) = IsFirstOf (LacksOperations p) (exports_of p.funs) at
 HasUnmade p (unmade.Frame name) = IsFirstOf (IsTooLargeFun p) (exports_of p.funs) name
 HasUnmade p (unmade.NoPlace u) = IsFirstOf (LeavesUnplaced p) (exports_of p.funs) u

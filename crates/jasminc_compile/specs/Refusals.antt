@@ -1,27 +1,17 @@
 -- Why an export function is not compiled.
 use Rattle.std.specs.Prelude.{◌≡◌, ◌<◌, ℕ, List}
-use Rattle.jz_tree.specs.Span.{Span}
 use Rattle.jz_tree.specs.declared.program.Fun.{Fun}
 use Rattle.jz_tree.specs.declared.program.Program.{Program}
 use Rattle.jz_change.specs.Changes.{Change}
 use Rattle.jz_expansion.specs.Expansions.{IsExpansion}
 use Rattle.jz_alloc.specs.declared.placing.NoPlace as numbered
 use Rattle.jz_code.specs.declared.code.NoCode.TheVariants as no
-use Rattle.jz_without_code.specs.Without.{IsWithoutCode}
 use Rattle.jz_whole_pipeline.specs.Refused.{stack_end, IsCodeless}
 use Rattle.jz_declared.specs.Declared.{held_of}
 use Rattle.jz_unplaced.specs.declared.unplaced.Unplaced.{Unplaced}
 use Rattle.jz_unplaced.specs.Names.{refusal_of}
 use Rattle.jasminc_compile.specs.declared.outcome.Unmade.{Unmade}
 use Rattle.jasminc_compile.specs.declared.outcome.Unmade.TheVariants as unmade
-
--- the first statement of an expansion of f of which there are no operations stands there
-pub record LacksOperations (p : Program) (f : Fun) (at : Span) : Type 0 where
-  pub expanded : Fun
-  pub change : Change
-  pub count : ℕ
-  pub expansion : IsExpansion p f expanded change count
-  pub lacks : IsWithoutCode expanded at
 
 -- the stack variables of an expansion of f end behind 65,536 bytes
 pub record IsTooLarge (p : Program) (f : Fun) : Type 0 where
@@ -46,6 +36,5 @@ abbrev pub IsTooLargeFun : Program → Fun → List ℕ → Type 0
 IsTooLargeFun p f name = (name ≡ f.name) × IsTooLarge p f
 
 abbrev pub IsUnmade : Program → Fun → Unmade → Type 0
-IsUnmade p f (unmade.NoOperations at) = LacksOperations p f at
 IsUnmade p f (unmade.Frame name) = IsTooLargeFun p f name
 IsUnmade p f (unmade.NoPlace u) = LeavesUnplaced p f u

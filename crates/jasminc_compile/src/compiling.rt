@@ -7,7 +7,7 @@ ghost use Rattle.jz_whole_pipeline.specs.NotCompiled.TheVariants as uncompiled;
 ghost use Rattle.jz_whole_pipeline.specs.Correctness.{IsRefusedFor};
 ghost use Rattle.jasminc_check.specs.Ready.{IsReadyAt};
 ghost use Rattle.jasminc_compile.specs.InnerMaking.{IsCompiledFrom, IsRefusedAt, IsNamedAt};
-ghost use Rattle.jasminc_compile.specs.InnerMaking.{LacksAt, IsNameAt};
+ghost use Rattle.jasminc_compile.specs.InnerMaking.{IsNameAt};
 ghost use Rattle.jasminc_compile.specs.InnerMaking.{IsUnmadeAt, IsSafeSomewhere, IsOutcomeAt};
 
 use crate::outcome::{Outcome, Unmade};
@@ -18,12 +18,11 @@ use jz_alloc::NoPlace;
 use jz_code::NoCode;
 use jz_data::Failure;
 use jz_listing::Compiled;
-use jz_tree::{Span, Text};
+use jz_tree::Text;
 use jz_types::Typed;
 use jz_unplaced::{Unplaced, named};
 use jz_verdict::said;
 use jz_whole_pipeline::{NotCompiled, Safe, compile_fun};
-use jz_without_code::first_without;
 use std::alloc::{AllocError, Global};
 
 /// The function as it is listed.
@@ -51,16 +50,6 @@ fn named_at(
     Ok(unplaced)
 }
 
-/// The place of the first statement without operations of the function at a place.
-fn lacking_at(alloc: Global, typed: &Typed, place: usize) -> Result<Option<Span>, AllocError>
-    requires { IsReadyAt typed.now.program place }
-    ensures { IfOk result (LacksAt typed.now.program place) }
-{
-    let expanded = expanded_at(alloc, typed, place)?;
-    let first = first_without(alloc, expanded.fun())?;
-    Ok(first)
-}
-
 /// The name of the function at a place.
 fn name_at(typed: &Typed, place: usize) -> Result<Text, AllocError>
     requires { IsReadyAt typed.now.program place }
@@ -71,33 +60,14 @@ fn name_at(typed: &Typed, place: usize) -> Result<Text, AllocError>
     Ok(name)
 }
 
-/// That the frame of the function at a place is too large, where its statements have operations.
-fn frame_at(alloc: Global, typed: &Typed, place: usize) -> Result<Unmade, AllocError>
+/// That the frame of the function at a place is too large.
+fn frame_at(typed: &Typed, place: usize) -> Result<Unmade, AllocError>
     requires ready { IsReadyAt typed.now.program place }
     requires refused { IsRefusedAt typed.now.program place (uncompiled.Code no.Frame) }
     ensures { IfOk result (IsUnmadeAt typed.now.program place) }
 {
-    let first = lacking_at(alloc, typed, place)?;
-    match first {
-        Some(at) => Ok(Unmade::NoOperations(at)),
-        None => {
-            let name = name_at(typed, place)?;
-            Ok(Unmade::Frame(name))
-        }
-    }
-}
-
-/// That a statement of the function at a place has no operations. One that is refused for the
-/// number of its variables is answered as want of memory.
-fn operations_at(alloc: Global, typed: &Typed, place: usize) -> Result<Unmade, AllocError>
-    requires { IsReadyAt typed.now.program place }
-    ensures { IfOk result (IsUnmadeAt typed.now.program place) }
-{
-    let first = lacking_at(alloc, typed, place)?;
-    match first {
-        Some(at) => Ok(Unmade::NoOperations(at)),
-        None => Err(AllocError),
-    }
+    let name = name_at(typed, place)?;
+    Ok(Unmade::Frame(name))
 }
 
 /// Why the operations of the function at a place are no code, by names.
@@ -108,7 +78,7 @@ fn uncoded_at(alloc: Global, typed: &Typed, place: usize, why: NoCode) -> Result
 {
     match why {
         NoCode::Frame => {
-            let unmade = frame_at(alloc, typed, place)?;
+            let unmade = frame_at(typed, place)?;
             Ok(unmade)
         }
         NoCode::Place(refused) => {
@@ -118,7 +88,8 @@ fn uncoded_at(alloc: Global, typed: &Typed, place: usize, why: NoCode) -> Result
     }
 }
 
-/// Why the function at a place is not compiled, by names.
+/// Why the function at a place is not compiled, by names. One that is refused for the number of its
+/// variables, as no text is that fits into memory, is answered as want of memory.
 fn unmade_at(
     alloc: Global,
     typed: &Typed,
@@ -130,10 +101,7 @@ fn unmade_at(
     ensures { IfOk result (IsUnmadeAt typed.now.program place) }
 {
     match why {
-        NotCompiled::At(_) => {
-            let unmade = operations_at(alloc, typed, place)?;
-            Ok(unmade)
-        }
+        NotCompiled::At(_) => Err(AllocError),
         NotCompiled::Code(code) => {
             let unmade = uncoded_at(alloc, typed, place, code)?;
             Ok(unmade)

@@ -1,14 +1,12 @@
 //! What compiling one export function comes to.
 
 use jz_listing::Compiled;
-use jz_tree::{Span, Text};
+use jz_tree::Text;
 use jz_unplaced::Unplaced;
 
 /// Why a safe export function is not compiled.
 #[derive(Drop)]
 pub enum Unmade {
-    /// There are no operations yet for what stands at this place of its expansion.
-    NoOperations(Span),
     /// The stack variables of the function of this name take too much.
     Frame(Text),
     /// A variable has no place.

@@ -16,7 +16,6 @@ use std::alloc::{AllocError, Global};
 /// The stages of making, in their order.
 #[derive(Clone, Copy)]
 pub(crate) enum Stage {
-    Operations,
     Frame,
     Places,
 }
@@ -25,18 +24,11 @@ fn is_of(stage: Stage, unmade: &Unmade) -> bool
     ensures { result ≡ is_of stage unmade.now }
 {
     match unmade {
-        Unmade::NoOperations(_) => match stage {
-            Stage::Operations => true,
-            Stage::Frame => false,
-            Stage::Places => false,
-        },
         Unmade::Frame(_) => match stage {
-            Stage::Operations => false,
             Stage::Frame => true,
             Stage::Places => false,
         },
         Unmade::NoPlace(_) => match stage {
-            Stage::Operations => false,
             Stage::Frame => false,
             Stage::Places => true,
         },
@@ -68,8 +60,7 @@ fn first_at(outcomes: &Seq<Outcome>, stage: Stage) -> Option<usize>
 
 /// The first without places, where no frame is too large.
 fn first_behind_frames(outcomes: &Seq<Outcome>) -> Option<usize>
-    requires operations { All (IsNotAt stage.Operations) outcomes.now }
-    requires frames { All (IsNotAt stage.Frame) outcomes.now }
+    requires { All (IsNotAt stage.Frame) outcomes.now }
     ensures found { IfSome result (IsFirstRefusal outcomes.now) }
     ensures none { result ≡ None → All IsMadeOne outcomes.now }
 {
@@ -79,26 +70,14 @@ fn first_behind_frames(outcomes: &Seq<Outcome>) -> Option<usize>
     }
 }
 
-/// The first refusal of a frame, or else of places.
-fn first_behind_operations(outcomes: &Seq<Outcome>) -> Option<usize>
-    requires { All (IsNotAt stage.Operations) outcomes.now }
+/// The first that is refused by the first stage that refuses one.
+fn first_refusal(outcomes: &Seq<Outcome>) -> Option<usize>
     ensures found { IfSome result (IsFirstRefusal outcomes.now) }
     ensures none { result ≡ None → All IsMadeOne outcomes.now }
 {
     match first_at(outcomes, Stage::Frame) {
         Some(place) => Some(place),
         None => first_behind_frames(outcomes),
-    }
-}
-
-/// The first that is refused by the first stage that refuses one.
-fn first_refusal(outcomes: &Seq<Outcome>) -> Option<usize>
-    ensures found { IfSome result (IsFirstRefusal outcomes.now) }
-    ensures none { result ≡ None → All IsMadeOne outcomes.now }
-{
-    match first_at(outcomes, Stage::Operations) {
-        Some(place) => Some(place),
-        None => first_behind_operations(outcomes),
     }
 }
 

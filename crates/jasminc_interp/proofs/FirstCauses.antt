@@ -31,8 +31,8 @@ pub record Excludes (text fun : List ℕ) (items : List Item) (n : ℕ) : Type 0
   pub reading : (u : source.Unread) → unread_stage u < n → IsUnread text u → ⊥
   pub named : (name : List ℕ) → 5 < n → HasNoExport text fun name → ⊥
   pub limits : (l : FunLimit) → 6 < n → PassesLimit text l → ⊥
-  pub counted : 11 < n → HasOtherItems text fun items → ⊥
-  pub met : (pre : Pre) → 12 < n → BreaksPrecondition text fun items pre → ⊥
+  pub counted : 10 < n → HasOtherItems text fun items → ⊥
+  pub met : (pre : Pre) → 11 < n → BreaksPrecondition text fun items pre → ⊥
 
 cleared : (text fun : List ℕ) (items : List Item) (n : ℕ) → Excludes text fun items n → Clear text fun items n
 cleared text fun items n e (Unread u) lt c = e.reading u lt c
@@ -112,7 +112,7 @@ module _ (text fun : List ℕ) (items : List Item) where
         no_limit : (l : FunLimit) → PassesLimit text l → ⊥
         no_limit l h = none_passes p l within (subst (λ (q : Program). HasLimit q l) (types_one text h.program p h.types t) h.limit)
 
-        before_items : Excludes text fun items 11
+        before_items : Excludes text fun items 10
         before_items = record {
           reading = λ u lt c. types_as_read text p t u c;
           named = λ name lt c. has_function name c;
@@ -125,7 +125,7 @@ module _ (text fun : List ℕ) (items : List Item) where
         items_first differ =
             first_with text fun items Items (record { program = p; types = t; function = f; found = found; differ = differ }) before_items
 
-        before_met : length items ≡ length f.params → Excludes text fun items 12
+        before_met : length items ≡ length f.params → Excludes text fun items 11
         before_met many = record {
           reading = λ u lt c. types_as_read text p t u c;
           named = λ name lt c. has_function name c;

@@ -20,7 +20,7 @@ pub record Gives (text fun : List ℕ) (items : List Item) (fuel : ℕ) (ran : R
 
 -- one past the last stage
 abbrev pub all_stages : ℕ
-all_stages = 13
+all_stages = 12
 
 -- a run, where nothing refuses it
 pub record IsDone (text fun : List ℕ) (items : List Item) (fuel : ℕ) (ran : Ran) : Type 0 where

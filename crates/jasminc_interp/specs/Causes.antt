@@ -56,8 +56,8 @@ abbrev pub stage_of : Refused → ℕ
 stage_of (Unread u) = unread_stage u
 stage_of (NoFunction name) = 5
 stage_of (Limit l) = 6
-stage_of Items = 11
-stage_of (Unmet pre) = 12
+stage_of Items = 10
+stage_of (Unmet pre) = 11
 
 -- no stage before this one has a cause
 abbrev pub Clear : List ℕ → List ℕ → List Item → ℕ → Type 0

@@ -1,8 +1,9 @@
 //! Sixty small programs: `interp` and `exec` end with the same results and regions, and what the
 //! bytes show is the printed transformer applied to the leak of the source.
 
-use crate::interp_tests::{CONDITIONAL_SWAP, QUARTER_ROUND};
+use crate::interp_tests::{BYTE_ORDER, CARRY_CHAIN, CONDITIONAL_SWAP, EQUAL_GROUPS, QUARTER_ROUND};
 use crate::language_tests::{EXCHANGE, MIX, SUM_AND_DIFFERENCE};
+use crate::routine_tests::{PRODUCT_STEP, ROTATION, SELECTION, WIDE_SUM};
 use crate::tests::{Faults, Ran, SUM, run};
 use jasminc_top::Status;
 use std::alloc::{AllocError, Global};
@@ -283,8 +284,8 @@ static CALLS: [Program; 15] = [
     },
 ];
 
-/// The routines of examples/ whose operations have come.
-static ROUTINES: [Routine; 9] = [
+/// The routines of examples/ that are safe.
+static ROUTINES: [Routine; 17] = [
     Routine {
         fun: "add",
         program: Program {
@@ -346,6 +347,62 @@ static ROUTINES: [Routine; 9] = [
         program: Program {
             text: SUM_AND_DIFFERENCE,
             items: "5 7",
+        },
+    },
+    Routine {
+        fun: "byte_order",
+        program: Program {
+            text: BYTE_ORDER,
+            items: "0x0102030405060708 0x1112131415161718",
+        },
+    },
+    Routine {
+        fun: "add_word",
+        program: Program {
+            text: CARRY_CHAIN,
+            items: "0xffffffffffffffff 0xffffffffffffffff 5 6 1",
+        },
+    },
+    Routine {
+        fun: "equal_groups",
+        program: Program {
+            text: EQUAL_GROUPS,
+            items: "0x0001000200030004 0x0001ffff00030004",
+        },
+    },
+    Routine {
+        fun: "add256",
+        program: Program {
+            text: WIDE_SUM,
+            items: "@ffffffffffffffffffffffffffffffffffffffffffffffffffffffffffffffff @0100000000000000000000000000000000000000000000000000000000000000",
+        },
+    },
+    Routine {
+        fun: "sub256",
+        program: Program {
+            text: WIDE_SUM,
+            items: "@0000000000000000000000000000000000000000000000000000000000000000 @0100000000000000000000000000000000000000000000000000000000000000",
+        },
+    },
+    Routine {
+        fun: "product_step",
+        program: Program {
+            text: PRODUCT_STEP,
+            items: "0xffffffffffffffff 0xffffffffffffffff 0xffffffffffffffff 0xffffffffffffffff",
+        },
+    },
+    Routine {
+        fun: "selection",
+        program: Program {
+            text: SELECTION,
+            items: "1 5 7",
+        },
+    },
+    Routine {
+        fun: "rotation",
+        program: Program {
+            text: ROTATION,
+            items: "0x8000000000000001 4",
         },
     },
 ];

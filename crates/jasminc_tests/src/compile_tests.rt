@@ -287,31 +287,6 @@ static REFUSED: [Row; 14] = [
     },
 ];
 
-/// Statements whose operations do not come yet.
-static NOT_YET: [Row; 3] = [
-    Row {
-        words: COMPILE,
-        text: b"#[range=\"y: 1..9\"]\nexport fn quo(#public reg u64 x y) -> reg u64 {\n  reg u64 q;\n  q = x / y;\n  return q;\n}\n",
-        status: Status::Typing,
-        written: "type 6 NoInstruction 4:3\n",
-        made: 0,
-    },
-    Row {
-        words: COMPILE,
-        text: b"export fn add2(reg u64 a b c d) -> reg u64, reg u64 {\n  reg u64 x y;\n  reg bool cf;\n  x = a;\n  cf, x += c;\n  y = b;\n  cf, y += d + cf;\n  return x, y;\n}\n",
-        status: Status::Typing,
-        written: "type 6 NoInstruction 5:3\n",
-        made: 0,
-    },
-    Row {
-        words: COMPILE,
-        text: b"export fn mh(reg u64 x, reg u64 y) -> reg u64, reg u64 { reg u64 h l; h, l = x * y; return l, h; }\n",
-        status: Status::Typing,
-        written: "type 6 NoInstruction 1:71\n",
-        made: 0,
-    },
-];
-
 /// The first breach stands in the listing; a conditional move has none.
 static BREACHES: [Row; 3] = [
     Row {
@@ -355,11 +330,6 @@ fn control_is_laid_out(rt: HostRuntime) -> Result<(), Fail> {
 #[test]
 fn stages_refuse(rt: HostRuntime) -> Result<(), Fail> {
     answer_rows(&rt, rt.alloc(), &REFUSED)
-}
-
-#[test]
-fn operations_that_do_not_come_yet(rt: HostRuntime) -> Result<(), Fail> {
-    answer_rows(&rt, rt.alloc(), &NOT_YET)
 }
 
 #[test]

@@ -3,6 +3,7 @@
 
 use crate::interp_tests::{BYTE_ORDER, CARRY_CHAIN, CONDITIONAL_SWAP, EQUAL_GROUPS, QUARTER_ROUND};
 use crate::language_tests::{EXCHANGE, MIX, SUM_AND_DIFFERENCE};
+use crate::routine_tests::{PRODUCT_STEP, ROTATION, SELECTION, WIDE_SUM};
 use crate::tests::{Row, SUM, answer_rows};
 use jasminc_top::Status;
 use std::test::Fail;
@@ -70,7 +71,7 @@ static CONSTANT: [Row; 8] = [
 ];
 
 /// The routines of examples/.
-static EXAMPLES: [Row; 12] = [
+static EXAMPLES: [Row; 16] = [
     Row {
         words: CT,
         text: SUM,
@@ -153,6 +154,34 @@ static EXAMPLES: [Row; 12] = [
         text: SUM_AND_DIFFERENCE,
         status: Status::Ok,
         written: "ct sum_and_difference yes\n",
+        made: 0,
+    },
+    Row {
+        words: CT,
+        text: PRODUCT_STEP,
+        status: Status::Ok,
+        written: "ct product_step yes\n",
+        made: 0,
+    },
+    Row {
+        words: CT,
+        text: ROTATION,
+        status: Status::Ok,
+        written: "ct rotation yes\n",
+        made: 0,
+    },
+    Row {
+        words: CT,
+        text: SELECTION,
+        status: Status::Ok,
+        written: "ct selection yes\n",
+        made: 0,
+    },
+    Row {
+        words: CT,
+        text: WIDE_SUM,
+        status: Status::Ok,
+        written: "ct add256 yes\nct sub256 yes\n",
         made: 0,
     },
 ];

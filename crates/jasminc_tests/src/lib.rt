@@ -25,11 +25,15 @@ mod live_tests;
 #[cfg(test)]
 mod memory_tests;
 #[cfg(test)]
+mod pinned_tests;
+#[cfg(test)]
 mod placing_tests;
 #[cfg(test)]
 mod question_tests;
 #[cfg(test)]
 mod refusal_tests;
+#[cfg(test)]
+mod routine_tests;
 #[cfg(test)]
 mod run_tests;
 #[cfg(test)]

@@ -39,7 +39,6 @@ early (refused.Unread (unread.Parse fault)) = omega arith
 early (refused.Unread (unread.Typing fault)) = omega arith
 early (refused.Limit l) = omega arith
 early (refused.Alarm a) = omega arith
-early (refused.Making (unmade.NoOperations at)) = omega arith
 early (refused.Making (unmade.Frame name)) = omega arith
 early (refused.Making (unmade.NoPlace w)) = omega arith
 

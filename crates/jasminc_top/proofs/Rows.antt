@@ -38,7 +38,7 @@ use Rattle.jz_disasm_text.specs.declared.Fault.TheVariants as fault
 use Rattle.jasminc_top.specs.Answers.{Cause, HasInput, HasText, WasRead, IsDue, IsUsage, IsNoCommand, IsQuiet, IsToldBy, IsToldAs, IsResult, Gives}
 use Rattle.jasminc_top.specs.Runs.{Run, Due, Runs, ReadsAll, Refuses, Completes, IsFree, IsGiven, IsEarlier, TellsInput, Tells, IsCaused, ComesOnly, IsTooLong}
 
-run_bounded : (r : Refused) → interp_causes.stage_of r < 13
+run_bounded : (r : Refused) → interp_causes.stage_of r < 12
 run_bounded (refusing.Unread (unread.Lex fault)) = omega arith
 run_bounded (refusing.Unread (unread.Parse fault)) = omega arith
 run_bounded (refusing.Unread (unread.Typing fault)) = omega arith
@@ -47,37 +47,36 @@ run_bounded (refusing.Limit l) = omega arith
 run_bounded refusing.Items = omega arith
 run_bounded (refusing.Unmet pre) = omega arith
 
-check_bounded : (r : checking.Refused) → checks.stage_of r < 13
+check_bounded : (r : checking.Refused) → checks.stage_of r < 12
 check_bounded (found.Unread (unread.Lex fault)) = omega arith
 check_bounded (found.Unread (unread.Parse fault)) = omega arith
 check_bounded (found.Unread (unread.Typing fault)) = omega arith
 check_bounded (found.Limit l) = omega arith
 check_bounded (found.Alarm a) = omega arith
 
-ct_bounded : (r : judging.Refused) → judgements.stage_of r < 13
+ct_bounded : (r : judging.Refused) → judgements.stage_of r < 12
 ct_bounded (judged.Unread (unread.Lex fault)) = omega arith
 ct_bounded (judged.Unread (unread.Parse fault)) = omega arith
 ct_bounded (judged.Unread (unread.Typing fault)) = omega arith
 ct_bounded (judged.Limit l) = omega arith
 ct_bounded (judged.Breach b) = omega arith
 
-compile_bounded : (r : making.Refused) → makings.stage_of r < 13
+compile_bounded : (r : making.Refused) → makings.stage_of r < 12
 compile_bounded (made.Unread (unread.Lex fault)) = omega arith
 compile_bounded (made.Unread (unread.Parse fault)) = omega arith
 compile_bounded (made.Unread (unread.Typing fault)) = omega arith
 compile_bounded (made.Limit l) = omega arith
 compile_bounded (made.Alarm a) = omega arith
-compile_bounded (made.Making (unmade.NoOperations at)) = omega arith
 compile_bounded (made.Making (unmade.Frame name)) = omega arith
 compile_bounded (made.Making (unmade.NoPlace w)) = omega arith
 
-call_bounded : (r : calling.Refused) → calls.stage_of r < 13
+call_bounded : (r : calling.Refused) → calls.stage_of r < 12
 call_bounded (uncalled.Compile r) = compile_bounded r
 call_bounded (uncalled.NoFunction name) = omega arith
 call_bounded uncalled.Items = omega arith
 call_bounded (uncalled.Unmet pre) = omega arith
 
-bounded : (r : Refusal) → stage_of r < 13
+bounded : (r : Refusal) → stage_of r < 12
 bounded Usage = omega arith
 bounded (Interp r) = run_bounded r
 bounded (Check r) = check_bounded r
@@ -200,7 +199,6 @@ no_other_compile (made.Unread (unread.Parse fault)) h = h
 no_other_compile (made.Unread (unread.Typing fault)) h = h
 no_other_compile (made.Limit l) h = h
 no_other_compile (made.Alarm a) h = h
-no_other_compile (made.Making (unmade.NoOperations at)) h = h
 no_other_compile (made.Making (unmade.Frame name)) h = h
 no_other_compile (made.Making (unmade.NoPlace w)) h = h
 

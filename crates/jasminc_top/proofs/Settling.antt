@@ -86,7 +86,6 @@ compile_late (made.Unread (unread.Parse fault)) = omega arith
 compile_late (made.Unread (unread.Typing fault)) = omega arith
 compile_late (made.Limit l) = omega arith
 compile_late (made.Alarm a) = omega arith
-compile_late (made.Making (unmade.NoOperations at)) = omega arith
 compile_late (made.Making (unmade.Frame name)) = omega arith
 compile_late (made.Making (unmade.NoPlace w)) = omega arith
 
@@ -180,7 +179,6 @@ compile_bound (made.Unread (unread.Parse fault)) h = h
 compile_bound (made.Unread (unread.Typing fault)) h = h
 compile_bound (made.Limit l) h = h
 compile_bound (made.Alarm a) h = h
-compile_bound (made.Making (unmade.NoOperations at)) h = h
 compile_bound (made.Making (unmade.Frame name)) h = h
 compile_bound (made.Making (unmade.NoPlace w)) h = h
 

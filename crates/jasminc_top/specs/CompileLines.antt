@@ -10,7 +10,7 @@ use Rattle.jasminc_selfrun.specs.Unmade.{Unmade}
 use Rattle.jasminc_selfrun.specs.Unmade.TheVariants as unmade
 use Rattle.jasminc_selfrun.specs.CompileRefused.{Refused}
 use Rattle.jasminc_selfrun.specs.CompileRefused.TheVariants as refused
-use Rattle.jasminc_top.specs.InterpLines.{unread_text, limit_text, operations_line, frame_line}
+use Rattle.jasminc_top.specs.InterpLines.{unread_text, limit_text, frame_line}
 use Rattle.jasminc_top.specs.Lines.{place_text, need_text, texts_or_dash}
 
 -- a variable, or a fixed write by a star
@@ -29,7 +29,6 @@ unplaced_line u =
     ++ texts_or_dash (map need_text u.needs) ++ codes " held" ++ texts_or_dash (map holder_text u.holders)
 
 abbrev pub unmade_text : Unmade → List ℕ
-unmade_text (unmade.NoOperations at) = operations_line at
 unmade_text (unmade.Frame name) = frame_line name
 unmade_text (unmade.NoPlace u) = unplaced_line u
 

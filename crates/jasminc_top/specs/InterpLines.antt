@@ -8,7 +8,6 @@ use Rattle.jz_types.specs.Faults.{rule_number}
 use Rattle.jz_limits.specs.declared.limit.Limit.{Limit}
 use Rattle.jz_limits.specs.declared.limit.Limit.TheVariants as limit
 use Rattle.jz_annotations.specs.declared.precondition.Pre.{Pre}
-use Rattle.jz_tree.specs.Span.{Span}
 use Rattle.jz_text.specs.Texts.{span_text}
 use Rattle.jasminc_lines.specs.Preconditions.{pre_text}
 use Rattle.jasminc_source.specs.declared.limits.FunLimit.{FunLimit}
@@ -56,10 +55,6 @@ abbrev pub unread_text : Unread → List ℕ
 unread_text (unread.Lex fault) = lexer_line fault
 unread_text (unread.Parse fault) = parser_line fault
 unread_text (unread.Typing fault) = type_line fault
-
--- what has no operations yet is told as a statement without an instruction
-abbrev pub operations_line : Span → List ℕ
-operations_line at = codes "type 6 NoInstruction " ++ span_text at
 
 abbrev pub frame_line : List ℕ → List ℕ
 frame_line name = codes "limit Frame " ++ name

@@ -62,7 +62,6 @@ status_of_breached (judged.Limit l) = status.Limit
 status_of_breached (judged.Breach b) = status.CtNo
 
 abbrev pub status_of_unmade : Unmade → Status
-status_of_unmade (unmade.NoOperations at) = status.Typing
 status_of_unmade (unmade.Frame name) = status.Limit
 status_of_unmade (unmade.NoPlace u) = status.NoPlace
 
@@ -105,7 +104,7 @@ abbrev pub line_of : Refusal → List ℕ
 line_of r = cause_text r ++ codes "\n"
 
 -- the stages in their order: words, file, lexer, parser, typing, function name, limits, safety,
--- operations, frames, places, the number of items, preconditions; a text has at most one reason to
+-- frames, places, the number of items, preconditions; a text has at most one reason to
 -- have no disassembly, right after the file
 abbrev pub stage_of : Refusal → ℕ
 stage_of Usage = 0
@@ -120,4 +119,4 @@ stage_of (Exec r) = calls.stage_of r
 
 -- one past the last stage
 abbrev pub all_stages : ℕ
-all_stages = 13
+all_stages = 12

@@ -6,7 +6,7 @@ ghost use Rattle.jasminc_top.specs.Lines.{texts_or_dash};
 ghost use Rattle.jasminc_top.specs.CompileLines.{holder_name, holder_text, unplaced_line};
 ghost use Rattle.jasminc_top.specs.CompileLines.{unmade_text, uncompiled_text};
 
-use crate::interp_lines::{write_frame, write_fun_limit, write_no_operations, write_unread};
+use crate::interp_lines::{write_frame, write_fun_limit, write_unread};
 use crate::lines::{place_name, write_needs};
 use jasminc_check::write_alarm;
 use jasminc_selfrun::{Uncompiled, Unmade};
@@ -73,7 +73,6 @@ fn write_unmade(line: &mut Vec<u8>, unmade: &Unmade) -> Result<(), AllocError>
     ensures { OnOk result (line.new.items ≡ line.old.items ++ unmade_text unmade.now) }
 {
     match unmade {
-        Unmade::NoOperations(at) => write_no_operations(line, *at),
         Unmade::Frame(name) => write_frame(line, name),
         Unmade::NoPlace(refusal) => write_unplaced(line, refusal),
     }

@@ -4,7 +4,7 @@
 ghost use Rattle.std.specs.Prelude.{◌≡◌, ◌++◌, OnOk};
 ghost use Rattle.jasminc_top.specs.InterpLines.{rule_name, type_line, limit_name, limit_subject};
 ghost use Rattle.jasminc_top.specs.InterpLines.{limit_text, unread_text};
-ghost use Rattle.jasminc_top.specs.InterpLines.{operations_line, frame_line};
+ghost use Rattle.jasminc_top.specs.InterpLines.{frame_line};
 ghost use Rattle.jasminc_top.specs.InterpLines.{unknown_text, unmet_text, refused_text};
 
 use crate::lines::{write_lex_fault, write_syntax_fault};
@@ -14,7 +14,7 @@ use jasminc_source::{FunLimit, Unread};
 use jz_first_limit::Limit;
 use jz_preconditions::Pre;
 use jz_text::{write_number, write_span};
-use jz_tree::{Span, Text};
+use jz_tree::Text;
 use jz_types::{TypeFault, TypeRule};
 use std::alloc::AllocError;
 
@@ -89,14 +89,6 @@ pub fn write_unread(line: &mut Vec<u8>, unread: Unread) -> Result<(), AllocError
         Unread::Parse(fault) => write_syntax_fault(line, fault),
         Unread::Typing(fault) => write_typing(line, fault),
     }
-}
-
-/// That a statement at a place has no operations yet.
-pub fn write_no_operations(line: &mut Vec<u8>, at: Span) -> Result<(), AllocError>
-    ensures { OnOk result (line.new.items ≡ line.old.items ++ operations_line at) }
-{
-    line.extend_from_slice(b"type 6 NoInstruction ")?;
-    write_span(line, at)
 }
 
 /// That the frame of the function of this name is too large.

@@ -123,7 +123,6 @@ fn status_of_unmade(unmade: &Unmade) -> Status
     ensures { result ≡ status_of_unmade unmade.now }
 {
     match unmade {
-        Unmade::NoOperations(_) => Status::Typing,
         Unmade::Frame(_) => Status::Limit,
         Unmade::NoPlace(_) => Status::NoPlace,
     }

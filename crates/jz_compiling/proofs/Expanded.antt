@@ -17,6 +17,7 @@ use Rattle.jz_meaning.specs.declared.access.Kind.TheVariants as kind
 use Rattle.jz_meaning.specs.Values.{ref_of, declared_kind}
 use Rattle.jz_meaning.specs.Statements as statements
 use Rattle.jz_runs.specs.Rules.{Goes}
+use Rattle.jz_ir.specs.Places.{place_at}
 use Rattle.jz_operations.specs.declared.operation.Stacked.{Stacked}
 use Rattle.jz_operations.specs.Rows.{Frame}
 use Rattle.jz_placing.specs.Variables.{variables}
@@ -26,7 +27,7 @@ use Rattle.jz_pass.specs.Laws.{Carries}
 use Rattle.jz_function_runs.specs.FunctionRuns.{plain_body}
 use Rattle.jz_place.specs.Bodies as ir
 use Rattle.jz_homes.specs.Homes.{Homes, IsHoming}
-use Rattle.jz_row_operations.specs.Bodies.{beside}
+use Rattle.jz_every_row.specs.Bodies.{beside}
 use Rattle.jz_homing.specs.Tables as homing
 use Rattle.jz_homing.specs.Tables.{no_homes}
 use Rattle.jz_homing.proofs.EntryLemmas.{none_entered, all_entered}
@@ -46,6 +47,7 @@ use Rattle.jz_signature.proofs.Sized.{sized}
 use Rattle.jz_joined.specs.Making.{HaveSizes, IsListedAs, IsExpandedTo, IsNeverStuck, IsLoweredTo, IsMade}
 use Rattle.jz_joined.proofs.Joining.{carries}
 use Rattle.jz_compiling.specs.Made.{IsMadeOf, KeepsHead, IsUsed, HasPlainHead}
+use Rattle.jz_compiling.proofs.Needs.{needs_met}
 
 -- ---- the frame by numbers
 place_same : (ss : List Stacked) (v : ℕ) → slice_get ss v ≡ at_place ss v
@@ -113,7 +115,8 @@ module _ (p : Program) (f g : Fun) (k : Change) (c : Compiled) (of_program : Con
   lowering = record {
     homing = subst (λ fr. IsHoming fr (homes_for g)) (frames_same m.lowered.stack) homing_is;
     made = m.is_lowered.lowered;
-    carries = subst (λ (fr : Frame). Carries (beside (homes_for g)) (λ s n. Goes statements.source (plain_body g) n s) (λ σ n. Goes (variables fr) (ir.body_of m.lowered.ir.body) n σ) (change_of m.lowered.change)) (frames_same m.lowered.stack) m.keeps;
+    carries = subst (λ (fr : Frame). Carries (beside (homes_for g)) (λ s n. Goes statements.source (plain_body g) n s) (λ σ n. Goes (variables fr) (ir.body_of m.lowered.ir.body) n σ) (change_of m.lowered.change)) (frames_same m.lowered.stack)
+        (m.keeps (λ v. place_at m.is_code.places v) (needs_met m.lowered.ir m.is_code.places m.ready m.is_code.rule));
   }
 
   abbrev pub made : IsMade p f c

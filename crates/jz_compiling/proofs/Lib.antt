@@ -1,3 +1,4 @@
+pub mod Needs
 pub mod Expanded
 pub mod Codeless
 pub use Rattle.jz_signature.proofs.StackLemmas

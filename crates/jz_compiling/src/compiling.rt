@@ -28,8 +28,8 @@ use std::alloc::{AllocError, Global};
 pub enum NotCompiled {
     /// Its stack variables take too much, or a variable is left without a place.
     Code(NoCode),
-    /// A statement that has no operations yet, a parameter or a result that is no word in a
-    /// register, or an annotation that is refused.
+    /// A statement without operations, a parameter or a result that is no word in a register, or
+    /// an annotation that is refused.
     At(Span),
 }
 

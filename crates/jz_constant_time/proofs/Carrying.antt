@@ -20,7 +20,7 @@ use Rattle.jz_change.specs.Changes.{map_of}
 use Rattle.jz_pass.specs.Laws.{Follows, has_ended, was_cut}
 use Rattle.jz_function_runs.specs.FunctionRuns.{plain_body}
 use Rattle.jz_place.specs.Bodies as ir
-use Rattle.jz_row_operations.specs.Bodies.{beside}
+use Rattle.jz_every_row.specs.Bodies.{beside}
 use Rattle.jz_lowered.specs.Functions.{ArePassed}
 use Rattle.jz_listing.specs.declared.compiled.Compiled.{Compiled}
 use Rattle.x64_machine.specs.Steps.{Config, Ran, at_entry, steps_of}

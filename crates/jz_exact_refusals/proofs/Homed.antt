@@ -151,61 +151,70 @@ module _ (t : Table) (x : Var) where
   in_register kind.Int f h = absurd f
   in_register kind.Undeclared f h = absurd f
 
-  in_frame : (k : Kind) → OnStack k → NoStacked t k → most ≤ length t.stack
-  in_frame (kind.Word z) f h = h
+  in_frame : (k : Kind) → OnStack k → NoStacked t k → 2 ^ 32 ≤ length (on_stack t x k).stack
+  in_frame (kind.Word z) f h = past_most most (length t.stack) (length (t.stack ++ (record { size = z; count = 1 } ∷ []))) next_most (length-append t.stack (record { size = z; count = 1 } ∷ [])) h
   in_frame (kind.Array z n) f (inl h) = absurd (too_far most n next_most f.1 h)
-  in_frame (kind.Array z n) f (inr h) = h
+  in_frame (kind.Array z n) f (inr h) = past_most most (length t.stack) (length (t.stack ++ (record { size = z; count = n } ∷ []))) next_most (length-append t.stack (record { size = z; count = n } ∷ [])) h
   in_frame kind.Bool f h = absurd f
   in_frame kind.Int f h = absurd f
   in_frame kind.Undeclared f h = absurd f
 
-  stored : (s : Storage) → Fits s (ref_of x).kind → NotStored t x s → (2 ^ 32 ≤ length (by_storage t x s).kinds) ⊎ (most ≤ length t.stack)
+  stored : (s : Storage) → Fits s (ref_of x).kind → NotStored t x s → (2 ^ 32 ≤ length (by_storage t x s).kinds) ⊎ (2 ^ 32 ≤ length (by_storage t x s).stack)
   stored storage.Reg f h = inl (in_register (ref_of x).kind f h)
   stored storage.Stack f h = inr (in_frame (ref_of x).kind f h)
   stored storage.Inline f h = absurd h
 
-  no_number : IsFit x → HasNoHome t x → (2 ^ 32 ≤ length (with_var t x).kinds) ⊎ (most ≤ length t.stack)
+  no_number : IsFit x → HasNoHome t x → (2 ^ 32 ≤ length (with_var t x).kinds) ⊎ (2 ^ 32 ≤ length (with_var t x).stack)
   no_number fit h =
-      subst (λ d. (2 ^ 32 ≤ length (by_declaration t x d).kinds) ⊎ (most ≤ length t.stack)) (sym fit.is)
+      subst (λ d. (2 ^ 32 ≤ length (by_declaration t x d).kinds) ⊎ (2 ^ 32 ≤ length (by_declaration t x d).stack)) (sym fit.is)
       (stored fit.decl.storage fit.fits (subst (NotDeclared t x) fit.is h))
 
-many_kinds : (a b c : ℕ) → 2 ^ 32 ≤ a → a ≤ b → c ≡ b → c < 2 ^ 32 → ⊥
-many_kinds a b c h k e few = absurd (omega (arith, h, k, e, few))
+-- so one of the variables has none where there are 2^32 of the one or of the other
+at_most : (a b c : ℕ) → 2 ^ 32 ≤ a → a ≤ b → c ≡ b → 2 ^ 32 ≤ c
+at_most a b c h k e = omega (arith, h, k, e)
 
-many_cells : (m a b c d : ℕ) → m + 1 ≡ 2 ^ 32 → m ≤ a → a ≤ b → b ≤ c → 0 + c ≤ d → d ≤ 65536 → ⊥
-many_cells m a b c d e h k l n few = absurd (omega (arith, e, h, k, l, n, few))
-
-module _ (xs : List Var) (fit : All IsFit xs) where
+module _ (xs : List Var) (fit : All IsFit xs) (at : Span) (h : IsHomeless no_homes xs at) where
   abbrev whole : Table
   whole = with_vars no_homes xs
 
-  module _ (few : length whole.kinds < 2 ^ 32) (small : end_from 0 whole.stack ≤ 65536) (at : Span) (h : IsHomeless no_homes xs at) where
-    abbrev before : Table
-    before = with_vars no_homes h.front
+  abbrev before : Table
+  before = with_vars no_homes h.front
 
-    abbrev behind : Table
-    behind = with_vars (with_var before h.var) h.back
+  abbrev behind : Table
+  behind = with_vars (with_var before h.var) h.back
 
-    here : IsFit h.var
-    here = All-head IsFit h.var h.back (parted IsFit h.front (h.var ∷ h.back) (subst (All IsFit) h.split fit)).1
+  here : IsFit h.var
+  here = All-head IsFit h.var h.back (parted IsFit h.front (h.var ∷ h.back) (subst (All IsFit) h.split fit)).1
 
-    same : whole ≡ behind
-    same = ap (with_vars no_homes) h.split ∙ vars_append no_homes h.front (h.var ∷ h.back)
+  same : whole ≡ behind
+  same = ap (with_vars no_homes) h.split ∙ vars_append no_homes h.front (h.var ∷ h.back)
 
-    first : Grows before (with_var before h.var)
-    first = declaration_grows h.var before (out-Var h.var).decl
+  rest : Grows (with_var before h.var) behind
+  rest = vars_grow (with_var before h.var) h.back
 
-    rest : Grows (with_var before h.var) behind
-    rest = vars_grow (with_var before h.var) h.back
+  by_number : (2 ^ 32 ≤ length (with_var before h.var).kinds) ⊎ (2 ^ 32 ≤ length (with_var before h.var).stack) → (2 ^ 32 ≤ length whole.kinds) ⊎ (2 ^ 32 ≤ length whole.stack)
+  by_number (inl many) = inl (at_most (length (with_var before h.var).kinds) (length behind.kinds) (length whole.kinds) many rest.kinds (ap (λ (t : Table). length t.kinds) same))
+  by_number (inr many) = inr (at_most (length (with_var before h.var).stack) (length behind.stack) (length whole.stack) many rest.stack (ap (λ (t : Table). length t.stack) same))
 
-    taken : 0 + length whole.stack ≤ end_from 0 whole.stack
-    taken = bytes_taken 0 whole.stack (vars_counted no_homes xs fit (All-nil HasCell))
+  pub homeless : (2 ^ 32 ≤ length whole.kinds) ⊎ (2 ^ 32 ≤ length whole.stack)
+  homeless = by_number (no_number before h.var here h.none)
 
-    clash : (2 ^ 32 ≤ length (with_var before h.var).kinds) ⊎ (most ≤ length before.stack) → ⊥
-    clash (inl many) = many_kinds (length (with_var before h.var).kinds) (length behind.kinds) (length whole.kinds) many rest.kinds (ap (λ (t : Table). length t.kinds) same) few
-    clash (inr many) =
-        many_cells most (length before.stack) (length (with_var before h.var).stack) (length whole.stack) (end_from 0 whole.stack) next_most many first.stack
-        (subst (λ (t : Table). length (with_var before h.var).stack ≤ length t.stack) (sym same) rest.stack) taken small
+many_kinds : (a : ℕ) → 2 ^ 32 ≤ a → a < 2 ^ 32 → ⊥
+many_kinds a h few = absurd (omega (arith, h, few))
 
-    pub none_homeless : ⊥
-    none_homeless = clash (no_number before h.var here h.none)
+many_cells : (c d : ℕ) → 2 ^ 32 ≤ c → 0 + c ≤ d → d ≤ 65536 → ⊥
+many_cells c d h n few = absurd (omega (arith, h, n, few))
+
+module _ (xs : List Var) (fit : All IsFit xs) (few : length (with_vars no_homes xs).kinds < 2 ^ 32) (small : end_from 0 (with_vars no_homes xs).stack ≤ 65536) where
+  abbrev table : Table
+  table = with_vars no_homes xs
+
+  taken : 0 + length table.stack ≤ end_from 0 table.stack
+  taken = bytes_taken 0 table.stack (vars_counted no_homes xs fit (All-nil HasCell))
+
+  clash : (2 ^ 32 ≤ length table.kinds) ⊎ (2 ^ 32 ≤ length table.stack) → ⊥
+  clash (inl many) = many_kinds (length table.kinds) many few
+  clash (inr many) = many_cells (length table.stack) (end_from 0 table.stack) many taken small
+
+  pub none_homeless : (at : Span) → IsHomeless no_homes xs at → ⊥
+  none_homeless at h = clash (homeless xs fit at h)

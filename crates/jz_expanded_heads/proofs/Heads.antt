@@ -1,5 +1,5 @@
 -- What is known of the variables of the head.
-use Rattle.std.proofs.Common.{◌≡◌, ℕ, Bool, true, false, ◌&&◌, List, [], ◌∷◌, ◌++◌, map, Option, Some, None, refl, sym, ap, ◌∙◌, subst, bytes_eq, if◌then◌else◌}
+use Rattle.std.proofs.Common.{◌≡◌, ◌≤◌, ℕ, suc, Bool, true, false, ◌&&◌, List, [], ◌∷◌, ◌++◌, map, length, Option, Some, None, refl, sym, ap, ◌∙◌, subst, bytes_eq, if◌then◌else◌}
 use Rattle.std.specs.Prelude.{nat_lt, All, AllPairs, Contains, option_map, slice_get}
 use Rattle.std.proofs.lemmas.Bool.{and_parts, and_from, false≢true}
 use Rattle.std.proofs.lemmas.List.Elements.{All-nil, All-cons, All-head, All-tail, All-contains}
@@ -122,6 +122,21 @@ differ_of [] vs h = tt
 differ_of (q ∷ ps) vs h =
     (others q ps vs (pairs_head AreApart q.var (map (λ (r : Param). r.var) ps ++ vs) h), differ_of ps vs (pairs_tail AreApart q.var (map (λ (r : Param). r.var) ps ++ vs) h))
 
+-- ---- a word of the head, with what is known of it
+pub record IsHeadWord (p : Program) (f : Fun) (v : Var) : Type 0 where
+  pub seen : IsSeen (copied_kinds p f) (frame_of p f) (known_at p f) v
+  pub plain : IsPlain (expanded_kinds p f) (frame_of p f) v
+  pub word : is_register_word (known_of v) ≡ true
+
+pub record HasHead (p : Program) (f g : Fun) : Type 0 where
+  pub params : All (IsHeadWord p f) (map (λ (q : Param). q.var) g.params)
+  pub results : All (IsHeadWord p f) g.result
+  pub few_params : length g.params ≤ 6
+  pub few_results : length g.result ≤ 2
+
+one_more : (a b : ℕ) → a ≡ b → suc a ≡ suc b
+one_more a b e = ap suc e
+
 module _ (p : Program) (f : Fun) (k : whole.IsKnown p f) where
   abbrev C : Kinds
   C = copied_kinds p f
@@ -157,8 +172,18 @@ module _ (p : Program) (f : Fun) (k : whole.IsKnown p f) where
   by_plain v (a_flag d e s) h = absurd (false≢true (sym (ap is_register_word d) ∙ h))
   by_plain v (an_array z n d a) h = absurd (false≢true (sym (ap is_register_word d) ∙ h))
 
+  head_word : (v : Var) → Kept v → is_register_word (known_of v) ≡ true → IsHeadWord p f v
+  head_word v h w = record { seen = seen_own v h; plain = plain_seen C F v (seen_own v h) (no_array (known_of v) w) (no_inline (known_of v) w); word = w }
+
   word_there : (v : Var) → Kept v → is_register_word (known_of v) ≡ true → IsResult D F v
-  word_there v h w = by_plain v (plain_seen C F v (seen_own v h) (no_array (known_of v) w) (no_inline (known_of v) w)) w
+  word_there v h w = by_plain v (head_word v h w).plain w
+
+  head_params : (ps : List Param) → All (λ (q : Param). Kept q.var) ps → All IsWord ps → All (IsHeadWord p f) (map (λ (q : Param). q.var) ps)
+  head_params [] h w = All-nil (IsHeadWord p f)
+  head_params (q ∷ ps) h w =
+      All-cons (IsHeadWord p f) q.var (map (λ (r : Param). r.var) ps)
+      (head_word q.var (All-head (λ (r : Param). Kept r.var) q ps h) (All-head IsWord q ps w))
+      (head_params ps (All-tail (λ (r : Param). Kept r.var) q ps h) (All-tail IsWord q ps w))
 
   params_there : (ps : List Param) → All (λ (q : Param). Kept q.var) ps → All IsWord ps → All (λ (q : Param). IsScalar D F (ref_of q.var)) ps
   params_there [] h w = All-nil (λ (q : Param). IsScalar D F (ref_of q.var))
@@ -185,10 +210,29 @@ module _ (p : Program) (f : Fun) (k : whole.IsKnown p f) where
       let o = All-head Kept v vs h in
       (word_there v o (returned_word r.decl v o same (All-head IsWordRet r rs w)), results_there rs vs rest (All-tail IsWordRet r rs w) (All-tail Kept v vs h))
 
+  head_results : (rs : List Ret) (vs : List Var) → InPairs Returned rs vs → All IsWordRet rs → All Kept vs → All (IsHeadWord p f) vs × (length vs ≡ length rs)
+  head_results [] [] well.none w h = (All-nil (IsHeadWord p f), refl)
+  head_results [] (v ∷ vs) t w h = elim t [ ]
+  head_results (r ∷ rs) [] t w h = elim t [ ]
+  head_results (r ∷ rs) (v ∷ vs) (well.next same rest) w h =
+      let o = All-head Kept v vs h in
+      let more = head_results rs vs rest (All-tail IsWordRet r rs w) (All-tail Kept v vs h) in
+      (All-cons (IsHeadWord p f) v vs (head_word v o (returned_word r.decl v o same (All-head IsWordRet r rs w))) more.0, one_more (length vs) (length rs) more.1)
+
   numbers_there : NoNumbers D
   numbers_there c e = part_no (C c.name c.copy) c.cell e
 
   module _ (w : HasWords f) (g : Fun) (params : g.params ≡ f.params) (result : g.result ≡ f.result) where
+    has_head : HasHead p f g
+    has_head =
+        let results = head_results f.rets f.result k.well.0 w.rets (kept_used p f k.text k.names).1 in
+        record {
+          params = subst (λ ps. All (IsHeadWord p f) (map (λ (q : Param). q.var) ps)) (sym params) (head_params f.params (kept_params p f k.text k.names) w.params);
+          results = subst (All (IsHeadWord p f)) (sym result) results.0;
+          few_params = subst (λ ps. length ps ≤ 6) (sym params) w.few_params;
+          few_results = subst (λ vs. length vs ≤ 2) (sym result) (subst (λ n. n ≤ 2) (sym results.1) w.few_rets);
+        }
+
     head_there : IsFineHead D F g
     head_there = record {
       no_numbers = numbers_there;
@@ -215,6 +259,9 @@ module _ (p : Program) (f g : Fun) (c : Change) (count : ℕ) (typed : IsTypedPr
 
   head_fine : IsFineHead (expanded_kinds p f) (frame_of p f) g × SharesHead f g
   head_fine = (head_there p f known words g same_params same_result, record { params = same_params; notes = same_notes })
+
+  pub head_words : HasHead p f g
+  head_words = has_head p f known words g same_params same_result
 
 pub heads_are_fine : HeadsAreFine
 heads_are_fine p f g c count typed text has exported x = head_fine p f g c count typed text has exported x

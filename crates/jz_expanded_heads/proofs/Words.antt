@@ -1,8 +1,10 @@
 -- The parameters and the results of an export function are words in registers.
-use Rattle.std.proofs.Common.{◌≡◌, Bool, true, false, not, ◌&&◌, ◌||◌, List, [], ◌∷◌, length, Some, sym, ap, ◌∙◌, subst}
+use Rattle.std.proofs.Common.{◌≡◌, ◌≤◌, ℕ, Bool, true, false, not, ◌&&◌, ◌||◌, List, [], ◌∷◌, length, map, Some, sym, ap, ◌∙◌, subst, arith}
 use Rattle.std.specs.Prelude.{All, option_map, nat_le}
 use Rattle.std.specs.List.{list_all}
 use Rattle.std.proofs.lemmas.Bool.{and_parts, false≢true}
+use Rattle.std.proofs.lemmas.Bool.Decides.{nat_tests}
+use Rattle.std.proofs.lemmas.List.{length-map}
 use Rattle.std.proofs.lemmas.List.Elements.{All-nil, All-cons, All-map, All-weaker}
 use Rattle.jz_tree.specs.declared.expr.Expr.{Expr}
 use Rattle.jz_tree.specs.declared.expr.Ty.{Ty}
@@ -36,6 +38,8 @@ IsWordRet r = is_word_result r ≡ true
 pub record HasWords (f : Fun) : Type 0 where
   pub params : All IsWord f.params
   pub rets : All IsWordRet f.rets
+  pub few_params : length f.params ≤ 6
+  pub few_rets : length f.rets ≤ 2
 
 abbrev pub IfExported : Fun → Type 0
 IfExported f = is_exported f.kind ≡ true → HasWords f
@@ -48,13 +52,23 @@ not_or : (a b : Bool) → (not a || b) ≡ true → a ≡ true → b ≡ true
 not_or true b e f = e
 not_or false b e f = absurd (false≢true f)
 
+at_most : (a b : ℕ) → nat_le a b ≡ true → a ≤ b
+at_most a b h = grind (arith, nat_tests, h)
+
+few_mapped : {A B : Type 0} (f : A → B) (xs : List A) (n : ℕ) → length xs ≤ n → length (map f xs) ≤ n
+few_mapped f xs n h = subst (λ m. m ≤ n) (sym (length-map xs f)) h
+
 shape_words : (f : Fun) → misshapen_places f ≡ [] → IfExported f
 shape_words f e x =
     let shape = not_or (is_exported f.kind) (has_shape f) (passed (not (is_exported f.kind) || has_shape f) f.span e) x in
     let both = and_parts (nat_le (length f.params) 6 && nat_le (length f.rets) 2 && list_all is_word_param f.params) (list_all is_word_result f.rets) shape in
+    let three = and_parts (nat_le (length f.params) 6 && nat_le (length f.rets) 2) (list_all is_word_param f.params) both.0 in
+    let counts = and_parts (nat_le (length f.params) 6) (nat_le (length f.rets) 2) three.0 in
     record {
-      params = each_so is_word_param f.params (and_parts (nat_le (length f.params) 6 && nat_le (length f.rets) 2) (list_all is_word_param f.params) both.0).1;
+      params = each_so is_word_param f.params three.1;
       rets = each_so is_word_result f.rets both.1;
+      few_params = at_most (length f.params) 6 counts.0;
+      few_rets = at_most (length f.rets) 2 counts.1;
     }
 
 module _ (p : Program) where
@@ -74,6 +88,8 @@ module _ (p : Program) where
   resolved_words f h x = record {
     params = All-map IsWord (counted_param values) f.params (All-weaker IsWord (λ q. IsWord (counted_param values q)) counted_words f.params (h x).params);
     rets = All-map IsWordRet (counted_ret values) f.rets (All-weaker IsWordRet (λ r. IsWordRet (counted_ret values r)) counted_rets f.rets (h x).rets);
+    few_params = few_mapped (counted_param values) f.params 6 (h x).few_params;
+    few_rets = few_mapped (counted_ret values) f.rets 2 (h x).few_rets;
   }
 
   all_words : in_functions misshapen_places p ≡ [] → All IfExported (resolved_program p).funs

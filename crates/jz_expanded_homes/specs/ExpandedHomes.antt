@@ -10,7 +10,7 @@ use Rattle.jz_change.specs.Changes.{Change}
 use Rattle.jz_function_runs.specs.FunctionRuns.{plain_body}
 use Rattle.jz_expansion.specs.Expansions.{IsExpansion}
 use Rattle.jz_lowering.specs.Functions.{homes_for}
-use Rattle.jz_total_rows.specs.Bodies.{IsReadyBody}
+use Rattle.jz_total_flags.specs.Bodies.{IsReadyBody}
 use Rattle.jz_ready_expansions.specs.ExpandedBodies.{IsExpandedBody}
 
 abbrev pub ExpansionsHaveHomes : Type 0

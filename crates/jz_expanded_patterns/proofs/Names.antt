@@ -1,8 +1,8 @@
 -- The variables of a statement in a copy: what is set becomes nothing else that is read.
-use Rattle.std.proofs.Common.{◌≡◌, ◌⊎◌, inl, inr, ℕ, ◌<◌, [], ◌∷◌, Bool, true, false, not, ◌&&◌, Option, Some, None, refl, sym, ap, ap₂, ◌∙◌, subst, arith}
-use Rattle.std.specs.Prelude.{◌≤◌, option_map}
+use Rattle.std.proofs.Common.{◌≡◌, ◌⊎◌, inl, inr, ℕ, ◌<◌, List, [], ◌∷◌, map, Bool, true, false, not, ◌&&◌, Option, Some, None, refl, sym, ap, ap₂, ◌∙◌, subst, arith}
+use Rattle.std.specs.Prelude.{◌≤◌, All, option_map}
 use Rattle.std.proofs.lemmas.Bool.{false≢true, true≢false, and_parts}
-use Rattle.std.proofs.lemmas.List.Elements.{All-head}
+use Rattle.std.proofs.lemmas.List.Elements.{All-nil, All-cons, All-head, All-tail}
 use Rattle.jz_tree.specs.Size.{Size}
 use Rattle.jz_tree.specs.Span.{Span}
 use Rattle.jz_tree.specs.declared.expr.BinOp.{BinOp}
@@ -25,7 +25,7 @@ use Rattle.jz_meaning.specs.Values.{Ref, key_of, cell_key, ref_of}
 use Rattle.jz_meaning.specs.Statements.{Operation, assign, instruction, unset, meaningless}
 use Rattle.jz_run_laws.specs.Counted as counted
 use Rattle.jz_typed_runs.proofs.KindsOf.{ref_is}
-use Rattle.jz_bodies.specs.Scopes.{Scope, a_scalar, a_cell, Has, Sets, is_over, is_access_over, Reads, Writes}
+use Rattle.jz_bodies.specs.Scopes.{Scope, a_scalar, a_cell, Has, Sets, is_over, is_access_over, Reads, AllRead, Writes, AllWritten}
 use Rattle.jz_bodies.specs.Calls.{is_array}
 use Rattle.jz_bodies.specs.Bodies.{IsOperation}
 use Rattle.jz_bodies.specs.Declared.{scopes_in}
@@ -45,7 +45,7 @@ use Rattle.jz_meetings.proofs.Kept.{name_one, name_self}
 use Rattle.jz_kept_patterns.specs.Passes.{name_in, renaming}
 use Rattle.jz_kept_patterns.specs.KeptPatterns.{no_registers}
 use Rattle.jz_kept_patterns.proofs.CopiedTrees.{named_in}
-use Rattle.jz_kept_patterns.proofs.Whole.{copy_always}
+use Rattle.jz_kept_patterns.proofs.Whole.{CopyPart, CopyLeft, copy_always, copy_pair, copy_instruction}
 use Rattle.jz_expanded_patterns.proofs.Bodies.{IfRow}
 
 -- ---- keys
@@ -278,11 +278,24 @@ module _ (p : Program) (P : Var → Type 0) (facts : Knows P) (g : Fun) (names :
 
   -- ---- a statement in the copy
   module _ (F : Key → Bool) (c : ℕ) (below : IsBelow X c) where
+    lefts_set : (to : List Lval) → AllWritten G to → All (LeftOver P) (map (lval_in names) to) → All (CopyLeft names Used) to
+    lefts_set [] w h = All-nil (CopyLeft names Used)
+    lefts_set (d ∷ ds) w h =
+        All-cons (CopyLeft names Used) d ds (place_set c below d w.0 (All-head (LeftOver P) (lval_in names d) (map (lval_in names) ds) h)) (lefts_set ds w.1 (All-tail (LeftOver P) (lval_in names d) (map (lval_in names) ds) h))
+
+    args_used : (es : List Expr) → AllRead G es → All (IsOver P) (map (expr_in names) es) → All (CopyPart names Used) es
+    args_used [] r h = All-nil (CopyPart names Used)
+    args_used (e ∷ es) r h =
+        All-cons (CopyPart names Used) e es (used_over e r.0 (All-head (IsOver P) (expr_in names e) (map (expr_in names) es) h)) (args_used es r.1 (All-tail (IsOver P) (expr_in names e) (map (expr_in names) es) h))
+
     pub row_in : (o : Operation) → IsOperation G o → OverOperation P F (op_in names o) → IfRow o → IfRow (op_in names o)
     row_in (assign [] o e x at) k h r = tt
     row_in (assign (d ∷ []) o e x at) k h r =
         λ n. copy_always names Used d (place_set c below d k.0.0 (All-head (LeftOver P) (lval_in names d) [] h.0)) o e x (used_over e k.1 h.1) (r (sets_before names d x n))
-    row_in (assign (d ∷ b ∷ ds) o e x at) k h r = tt
-    row_in (instruction to n args at) k h r = tt
+    row_in (assign (f ∷ d ∷ []) o e None at) k h r =
+        copy_pair names Used d (place_set c below d k.0.1.0 (All-head (LeftOver P) (lval_in names d) [] (All-tail (LeftOver P) (lval_in names f) (lval_in names d ∷ []) h.0))) f o e (used_over e k.1 h.1) r
+    row_in (assign (f ∷ d ∷ []) o e (Some x) at) k h r = tt
+    row_in (assign (f ∷ d ∷ b ∷ ds) o e x at) k h r = tt
+    row_in (instruction to n args at) k h r = copy_instruction names Used to n args (lefts_set to k.0 h.0) (args_used args k.1 h.1) r
     row_in (unset vs) k h r = tt
     row_in (meaningless at) k h r = tt

@@ -36,7 +36,6 @@ use Rattle.jz_select.specs.Places.{Answers, meeting_of}
 use Rattle.jz_select.specs.Operands.{var_class, class_layer, class_of, dest_of, operand_of}
 use Rattle.jz_select.specs.Rows.{is_r, is_i, is_rm, is_rmi, is_same_place, is_apart_from}
 use Rattle.jz_select.specs.Shapes.{Asked, whichever, value_layer}
-use Rattle.jz_meaning.specs.declared.access.Kind.TheVariants as kind
 use Rattle.jz_meaning.specs.States.{Key}
 use Rattle.jz_meaning.specs.Values.{key_of, ref_of}
 use Rattle.jz_meaning.specs.Statements.{Operation, Call}

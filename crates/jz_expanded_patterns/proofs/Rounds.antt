@@ -1,8 +1,10 @@
 -- Rounds and values: each assignment that is left has a row.
-use Rattle.std.proofs.Common.{◌≡◌, ℤ, List, [], ◌∷◌, Bool, true, false, not, ◌&&◌, refl, sym, ap, ◌∙◌, if◌then◌else◌}
+use Rattle.std.proofs.Common.{◌≡◌, ℤ, List, [], ◌∷◌, Some, None, Bool, true, false, not, ◌&&◌, refl, sym, ap, ◌∙◌, if◌then◌else◌}
+use Rattle.std.specs.Prelude.{All}
 use Rattle.std.specs.List.{list_all}
 use Rattle.std.proofs.lemmas.Bool.{and_parts}
-use Rattle.std.proofs.lemmas.List.Elements.{All-head}
+use Rattle.std.proofs.lemmas.List.Elements.{All-nil, All-cons, All-head, All-tail}
+use Rattle.jz_tree.specs.declared.expr.Expr.{Expr}
 use Rattle.jz_tree.specs.declared.expr.Expr.TheVariants as expr
 use Rattle.jz_tree.specs.declared.expr.Var.{Var}
 use Rattle.jz_tree.specs.declared.stmt.Lval.{Lval}
@@ -21,9 +23,9 @@ use Rattle.jz_unroll.specs.Values.{InlineNames, is_inline_var, has_values, left_
 use Rattle.jz_unroll.specs.Unrolling.{stays, vanishes, marked, tested, loops, always, unrolling}
 use Rattle.jz_unroll.proofs.InlineParts.{inline_var}
 use Rattle.jz_unroll.proofs.Parts.{not_true}
-use Rattle.jz_copied_variables.specs.Variables.{LeftOver, OverOperation, OverBody}
+use Rattle.jz_copied_variables.specs.Variables.{IsOver, LeftOver, OverOperation, OverBody}
 use Rattle.jz_kept_patterns.specs.KeptPatterns.{AreTold}
-use Rattle.jz_kept_patterns.proofs.Whole.{value_always}
+use Rattle.jz_kept_patterns.proofs.Whole.{value_always, value_pair, value_instruction}
 use Rattle.jz_expanded_patterns.proofs.Bodies.{IfRow, IfRows, HasRow, HaveRows}
 
 module _ (names : InlineNames) (P : Var → Type 0) (frame : Key → Bool) (known : Named → Known) (told : AreTold P known) where
@@ -35,6 +37,24 @@ module _ (names : InlineNames) (P : Var → Type 0) (frame : Key → Bool) (know
     set_none (lval.Cell v i) h = refl
     set_none (lval.Store a) h = refl
 
+    abbrev Valued : Lval → Type 0
+    Valued d = LeftOver P d × (left_has_values names k d ≡ true)
+
+    abbrev Given : Expr → Type 0
+    Given e = IsOver P e × (has_values names k e ≡ true)
+
+    lefts_valued : (to : List Lval) → All (LeftOver P) to → list_all (left_has_values names k) to ≡ true → All Valued to
+    lefts_valued [] h v = All-nil Valued
+    lefts_valued (d ∷ ds) h v =
+        let a = and_parts (left_has_values names k d) (list_all (left_has_values names k) ds) v in
+        All-cons Valued d ds (All-head (LeftOver P) d ds h, a.0) (lefts_valued ds (All-tail (LeftOver P) d ds h) a.1)
+
+    args_valued : (es : List Expr) → All (IsOver P) es → list_all (has_values names k) es ≡ true → All Given es
+    args_valued [] h v = All-nil Given
+    args_valued (e ∷ es) h v =
+        let a = and_parts (has_values names k e) (list_all (has_values names k) es) v in
+        All-cons Given e es (All-head (IsOver P) e es h, a.0) (args_valued es (All-tail (IsOver P) e es h) a.1)
+
     row_valued : (o : Operation) → OverOperation P frame o → IfRow o → operation_has_values names k o ≡ true → HasRow (operation_with_values k o)
     row_valued (assign [] o e c at) h r v = tt
     row_valued (assign (d ∷ []) o e c at) h r v =
@@ -42,8 +62,16 @@ module _ (names : InlineNames) (P : Var → Type 0) (frame : Key → Bool) (know
         let l = (and_parts (left_has_values names k d) true a.0).0 in
         let b = and_parts (has_values names k e) (if_has_values names k c && is_split (d ∷ []) (whole_of (last_left (d ∷ [])) o e)) a.1 in
         value_always names k P known told d o e c (All-head (LeftOver P) d [] h.0) h.1 l b.0 (r (ap (λ x. x && may_be_inline c) (set_none d l)))
-    row_valued (assign (d ∷ b ∷ ds) o e c at) h r v = tt
-    row_valued (instruction to n args at) h r v = tt
+    row_valued (assign (f ∷ d ∷ []) o e None at) h r v =
+        let a = and_parts (list_all (left_has_values names k) (f ∷ d ∷ [])) (has_values names k e && (if_has_values names k None && is_split (f ∷ d ∷ []) (whole_of (last_left (f ∷ d ∷ [])) o e))) v in
+        let l = (and_parts (left_has_values names k d) true (and_parts (left_has_values names k f) (left_has_values names k d && true) a.0).1).0 in
+        let b = and_parts (has_values names k e) (if_has_values names k None && is_split (f ∷ d ∷ []) (whole_of (last_left (f ∷ d ∷ [])) o e)) a.1 in
+        value_pair names k P known told f d o e (All-head (LeftOver P) d [] (All-tail (LeftOver P) f (d ∷ []) h.0)) h.1 l b.0 r
+    row_valued (assign (f ∷ d ∷ []) o e (Some c) at) h r v = tt
+    row_valued (assign (f ∷ d ∷ b ∷ ds) o e c at) h r v = tt
+    row_valued (instruction to n args at) h r v =
+        let a = and_parts (list_all (left_has_values names k) to) (list_all (has_values names k) args) v in
+        value_instruction names k P known told to n args (lefts_valued to h.0 a.0) (args_valued args h.1 a.1) r
     row_valued (unset vs) h r v = tt
     row_valued (meaningless at) h r v = tt
 

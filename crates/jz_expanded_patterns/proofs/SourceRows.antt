@@ -1,5 +1,5 @@
--- The tree of a function's body, with the bodies that it calls: each assignment to one left side
--- that needs a row has one.
+-- The tree of a function's body, with the bodies that it calls: each assignment that needs
+-- a row has one, and each intrinsic.
 use Rattle.std.proofs.Common.{◌≡◌, ℕ, List, [], ◌∷◌, Option, Some, None, true, false, not, map, bytes_eq, refl, sym, ap, subst}
 use Rattle.std.specs.Prelude.{All, Contains, is_some, slice_index_or, ⊤}
 use Rattle.std.proofs.lemmas.Bool.{false≢true}
@@ -121,7 +121,9 @@ module _ (q : Program) where
   value_rowed : (to : List Lval) (o : Option BinOp) (e : Expr) (c : Option Expr) (at : Span) → IsSaid (StmtKind-F.Assign to o (rhs.Value e) c) → IfRow (assign to o e c at)
   value_rowed [] o e c at s = tt
   value_rowed (d ∷ []) o e c at s = λ n. s.row (ap not n)
-  value_rowed (d ∷ b ∷ ds) o e c at s = tt
+  value_rowed (f ∷ d ∷ []) o e None at s = s.row refl
+  value_rowed (f ∷ d ∷ []) o e (Some c) at s = tt
+  value_rowed (f ∷ d ∷ b ∷ ds) o e c at s = tt
 
   -- ---- assignments
   within : (n : List ℕ) (g : Fun) → function_named n q.funs ≡ Some g → Contains q.funs g
@@ -138,7 +140,7 @@ module _ (q : Program) where
   assigned to None (rhs.Call n args place) (Some c) at s r b = absurd (no_conditional to None (rhs.Call n args place) c tt (s.row refl no_answers))
   assigned to (Some o) (rhs.Call n args place) None at s r b = absurd (no_free (s.row refl no_answers))
   assigned to (Some o) (rhs.Call n args place) (Some c) at s r b = absurd (no_conditional to (Some o) (rhs.Call n args place) c tt (s.row refl no_answers))
-  assigned to None (rhs.Intrinsic n args place) None at s r b = (tt, b)
+  assigned to None (rhs.Intrinsic n args place) None at s r b = (s.row refl, b)
   assigned to None (rhs.Intrinsic n args place) (Some c) at s r b = absurd (no_conditional to None (rhs.Intrinsic n args place) c tt (s.row refl no_answers))
   assigned to (Some o) (rhs.Intrinsic n args place) None at s r b = absurd (no_free (s.row refl no_answers))
   assigned to (Some o) (rhs.Intrinsic n args place) (Some c) at s r b = absurd (no_conditional to (Some o) (rhs.Intrinsic n args place) c tt (s.row refl no_answers))

@@ -1,5 +1,5 @@
 -- Rows through the three passes of an expansion.
-use Rattle.std.proofs.Common.{◌≡◌, ℕ, [], ◌∷◌, Bool, true, false, refl, sym, ap, ◌∙◌, subst}
+use Rattle.std.proofs.Common.{◌≡◌, ℕ, [], ◌∷◌, Some, None, Bool, true, false, refl, sym, ap, ◌∙◌, subst}
 use Rattle.std.specs.Prelude.{◌≤◌, Contains}
 use Rattle.std.proofs.lemmas.Bool.{true≢false}
 use Rattle.jz_tree.specs.Size.{Size}
@@ -33,13 +33,13 @@ use Rattle.jz_function_runs.specs.FunctionRuns.{plain_body}
 use Rattle.jz_ready.specs.CopiedKinds.{copied_kinds}
 use Rattle.jz_expansion.specs.Expansions.{IsExpansion}
 use Rattle.jz_expanded_types.proofs.Expanded.{rewritten}
-use Rattle.jz_total_rows.specs.Bodies.{HasPattern, HavePatterns}
+use Rattle.jz_total_flags.specs.Bodies.{HasPattern, HavePatterns}
 use Rattle.jz_copied_variables.specs.Variables.{frame_of, known_at, IsSeen, OverBody}
 use Rattle.jz_copied_variables.proofs.Copied.{copies_have_variables}
 use Rattle.jz_copied_variables.proofs.Seen.{kind_is, same_kind}
 use Rattle.jz_plain_expansions.proofs.Passes.{ClearBody, rounds_are_clear}
 use Rattle.jz_kept_patterns.specs.KeptPatterns.{AreTold, AreKinds}
-use Rattle.jz_kept_patterns.proofs.Selecting.{always_matched}
+use Rattle.jz_kept_patterns.proofs.Selecting.{always_matched, always_pair, always_instruction}
 use Rattle.jz_expanded_patterns.specs.ExpandedPatterns.{ExpansionsHavePatterns}
 use Rattle.jz_expanded_patterns.proofs.Bodies.{IfRows, HasRow, HaveRows}
 use Rattle.jz_expanded_patterns.proofs.Names.{key_by, key_is, cell_of, Knows}
@@ -51,8 +51,10 @@ use Rattle.jz_expanded_patterns.proofs.Words.{words_have_rows}
 has_pattern : (o : Operation) → HasRow o → HasPattern o
 has_pattern (assign [] o e c at) h = tt
 has_pattern (assign (d ∷ []) o e c at) h = always_matched d o e c h
-has_pattern (assign (d ∷ b ∷ ds) o e c at) h = tt
-has_pattern (instruction to n args at) h = tt
+has_pattern (assign (f ∷ d ∷ []) o e None at) h = always_pair f d o e h
+has_pattern (assign (f ∷ d ∷ []) o e (Some c) at) h = tt
+has_pattern (assign (f ∷ d ∷ b ∷ ds) o e c at) h = tt
+has_pattern (instruction to n args at) h = always_instruction to n args at h
 has_pattern (unset vs) h = tt
 has_pattern (meaningless at) h = tt
 

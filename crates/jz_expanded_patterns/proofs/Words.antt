@@ -1,7 +1,7 @@
 -- Words in place of cells of register arrays: each assignment has a row.
-use Rattle.std.proofs.Common.{◌≡◌, ℤ, List, [], ◌∷◌, Option, map, Bool, true, sym, ap, ◌∙◌, subst}
+use Rattle.std.proofs.Common.{◌≡◌, ℤ, List, [], ◌∷◌, Option, Some, None, map, Bool, true, sym, ap, ◌∙◌, subst}
 use Rattle.std.specs.Prelude.{All, option_map, ⊤}
-use Rattle.std.proofs.lemmas.List.Elements.{All-head}
+use Rattle.std.proofs.lemmas.List.Elements.{All-nil, All-cons, All-head, All-tail}
 use Rattle.jz_tree.specs.Span.{Span}
 use Rattle.jz_tree.specs.declared.expr.BinOp.{BinOp}
 use Rattle.jz_tree.specs.declared.expr.Expr.{Expr}
@@ -30,7 +30,7 @@ use Rattle.jz_plain_expansions.proofs.Passes.{ClearBody}
 use Rattle.jz_meetings.specs.Turns.{IsNumeral, OverTree}
 use Rattle.jz_meetings.proofs.OfTrees.{tree_form, tree_rolled, tree_out}
 use Rattle.jz_kept_patterns.specs.KeptPatterns.{AreTold, LeftNumbered, Whatever, AreKinds}
-use Rattle.jz_kept_patterns.proofs.Whole.{word_always}
+use Rattle.jz_kept_patterns.proofs.Whole.{word_always, word_pair, word_instruction}
 use Rattle.jz_expanded_patterns.proofs.Bodies.{HasRow, HaveRows}
 
 -- ---- numbers
@@ -98,12 +98,35 @@ module _ (P : Var → Type 0) (known : Named → Known) (kind : Named → Kind) 
   row_scaled (d ∷ []) o e c at l h r =
       let x = All-head (LeftClear P) d [] l in
       word_always P known kind told kinds d o e c (left_over P d x) (clear_over P h) (left_numbers d x) (clear_numbers h) r
-  row_scaled (d ∷ b ∷ ds) o e c at l h r = tt
+  row_scaled (f ∷ d ∷ []) o e None at l h r =
+      let x = All-head (LeftClear P) d [] (All-tail (LeftClear P) f (d ∷ []) l) in
+      word_pair P known kind told kinds f d o e (left_over P d x) (clear_over P h) (left_numbers d x) (clear_numbers h) r
+  row_scaled (f ∷ d ∷ []) o e (Some c) at l h r = tt
+  row_scaled (f ∷ d ∷ b ∷ ds) o e c at l h r = tt
+
+  abbrev Numbered : Lval → Type 0
+  Numbered d = LeftOver P d × LeftNumbered R d
+
+  abbrev Numbers : Expr → Type 0
+  Numbers e = IsOver P e × OverTree Whatever R (tree_of e)
+
+  lefts_scaled : (to : List Lval) → All (LeftClear P) to → All Numbered to
+  lefts_scaled [] l = All-nil Numbered
+  lefts_scaled (d ∷ ds) l =
+      let x = All-head (LeftClear P) d ds l in
+      All-cons Numbered d ds (left_over P d x, left_numbers d x) (lefts_scaled ds (All-tail (LeftClear P) d ds l))
+
+  args_scaled : (es : List Expr) → All (IsClear P) es → All Numbers es
+  args_scaled [] h = All-nil Numbers
+  args_scaled (e ∷ es) h =
+      let x = All-head (IsClear P) e es h in
+      All-cons Numbers e es (clear_over P x, clear_numbers x) (args_scaled es (All-tail (IsClear P) e es h))
 
   scaled_rows : (frame : Key → Bool) (wanted : Kinds) {t rest u : Block} {e e1 : ⊤} {k : Change} → Unrolls (knowing_of (arrays wanted)) t e rest u e1 k → ClearBody P frame t → HaveRows t → HaveRows rest → HaveRows u
   scaled_rows frame wanted u_done f i r = r
   scaled_rows frame wanted (u_op (assigns {to = to} {op = o} {e = e} {c = c} {at = at} h) x) f i r = (row_scaled to o e c at f.0.0 f.0.1 i.0, scaled_rows frame wanted x f.1 i.1 r)
-  scaled_rows frame wanted (u_op (instructs h) x) f i r = (tt, scaled_rows frame wanted x f.1 i.1 r)
+  scaled_rows frame wanted (u_op (instructs {to = to} {n = n} {args = args} h) x) f i r =
+      (word_instruction P known kind told kinds to n args (lefts_scaled to f.0.0) (args_scaled args f.0.1) i.0, scaled_rows frame wanted x f.1 i.1 r)
   scaled_rows frame wanted (u_quiet q x) f i r = scaled_rows frame wanted x f.1 i r
   scaled_rows frame wanted (u_if (tests h) a b l m x) f i r = (scaled_rows frame wanted a f.1 i.0 tt, scaled_rows frame wanted b f.2 i.1 tt, scaled_rows frame wanted x f.3 i.2 r)
   scaled_rows frame wanted (u_arm c y x) f i r = absurd c

@@ -1,4 +1,4 @@
--- Each assignment of the expansion of a function of a typed text to one left side has a row of the
+-- Each assignment of the expansion of a function of a typed text, and each intrinsic, has a row of the
 -- pattern table.
 use Rattle.std.specs.Prelude.{ℕ, Contains}
 use Rattle.jz_tree.specs.declared.program.Fun.{Fun}
@@ -8,7 +8,7 @@ use Rattle.jz_texts.specs.Texts.{IsText}
 use Rattle.jz_change.specs.Changes.{Change}
 use Rattle.jz_function_runs.specs.FunctionRuns.{plain_body}
 use Rattle.jz_expansion.specs.Expansions.{IsExpansion}
-use Rattle.jz_total_rows.specs.Bodies.{HavePatterns}
+use Rattle.jz_total_flags.specs.Bodies.{HavePatterns}
 
 abbrev pub ExpansionsHavePatterns : Type 0
 ExpansionsHavePatterns =

@@ -161,7 +161,7 @@ module _ (home : Homes) (at : Span) where
   no_variable x e os c p q f (compares {o = o2} {a = a2} {b = b2} here h size ia ib ni can) = let s : ◌≡◌ {A = Layer} (Expr-F.Bin o2 a2 b2 here) (Expr-F.Var x) = sym (out_bin o2 a2 b2 here) ∙ f in absurd cc
   no_variable x e os c p q f (denies {e = e2} here h) = let s : ◌≡◌ {A = Layer} (Expr-F.Not e2 here) (Expr-F.Var x) = sym (out_not e2 here) ∙ f in absurd cc
 
-  abbrev NeverCompared : Expr → Type 0
+  abbrev pub NeverCompared : Expr → Type 0
   NeverCompared e = (os : Operation) (c : Cond) (p q : Leaks) → IsCompared home at e os c p q → ⊥
 
   inner : (e e1 : Expr) (there : Span) (os : Operation) (c : Cond) (p q : Leaks) → out-Expr e ≡ Expr-F.Not e1 there → NeverCompared e1 → IsCompared home at e os c p q → ⊥
@@ -171,13 +171,13 @@ module _ (home : Homes) (at : Span) where
       let is : e2 ≡ e1 = cc in
       none o2 k r s (subst (λ u. IsCompared home at u o2 k r s) is h)
 
-  flag_never : (e : Expr) (n : ℕ) (d : Bool) → IsFlagCondition home e n d → NeverCompared e
-  flag_never e n d (a_flag x m h) os c p q k = no_variable x (expr.Var x) os c p q (out_var x) k
+  pub flag_never : (e : Expr) (n : ℕ) (d : Bool) → IsFlagCondition home e n d → NeverCompared e
+  flag_never e n d (a_flag x m kd h) os c p q k = no_variable x (expr.Var x) os c p q (out_var x) k
   flag_never e n d (denied {e = e1} {n = m} {d = b} here h) os c p q k = inner (expr.Not e1 here) e1 here os c p q (out_not e1 here) (flag_never e1 m b h) k
 
-no_truth : (home : Homes) (e : Expr) (n : ℕ) (d : Bool) (here : Span) → e ≡ expr.Bool true here → IsFlagCondition home e n d → ⊥
-no_truth home e n d here f (a_flag x m h) = let s : ◌≡◌ {A = Layer} (Expr-F.Var x) (Expr-F.Expr::Bool true here) = sym (out_var x) ∙ ap out-Expr f ∙ out_bool true here in absurd cc
-no_truth home e n d here f (denied {e = e1} there h) = let s : ◌≡◌ {A = Layer} (Expr-F.Not e1 there) (Expr-F.Expr::Bool true here) = sym (out_not e1 there) ∙ ap out-Expr f ∙ out_bool true here in absurd cc
+pub no_truth : (home : Homes) (e : Expr) (b : Bool) (n : ℕ) (d : Bool) (here : Span) → e ≡ expr.Bool b here → IsFlagCondition home e n d → ⊥
+no_truth home e b n d here f (a_flag x m kd h) = let s : ◌≡◌ {A = Layer} (Expr-F.Var x) (Expr-F.Expr::Bool b here) = sym (out_var x) ∙ ap out-Expr f ∙ out_bool b here in absurd cc
+no_truth home e b n d here f (denied {e = e1} there h) = let s : ◌≡◌ {A = Layer} (Expr-F.Not e1 there) (Expr-F.Expr::Bool b here) = sym (out_not e1 there) ∙ ap out-Expr f ∙ out_bool b here in absurd cc
 
 -- ---- statements
 module _ (home : Homes) where
@@ -207,4 +207,4 @@ flag_test home t b j (asks_flag {n} {d} h) = (n, d, h)
 
 pub tests_apart : TestsAreApart
 tests_apart home t a b i j (tests_each (tests {compare = o} {c} {p} {q} f)) k = let r = flag_test home t b j k in flag_never home t.at t.cond r.0 r.1 r.2 o c p q f
-tests_apart home t a b i j (never_false here e) k = let r = flag_test home t b j k in no_truth home t.cond r.0 r.1 here e r.2
+tests_apart home t a b i j (never_false here e) k = let r = flag_test home t b j k in no_truth home t.cond true r.0 r.1 here e r.2

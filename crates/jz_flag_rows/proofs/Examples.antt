@@ -2,14 +2,17 @@
 use Rattle.std.proofs.Common.{◌≡◌, true, false, [], ◌∷◌, Some, None, refl, pos}
 use Rattle.jz_words.specs.declared.size.Size.TheVariants.{S32, S64}
 use Rattle.x64_insn.specs.declared.types.Alu.TheVariants as alu
+use Rattle.x64_insn.specs.declared.types.Place.TheVariants as place
 use Rattle.x64_insn.specs.declared.types.Reg.TheVariants as reg
 use Rattle.x64_insn.specs.declared.types.Shift.TheVariants as shift
 use Rattle.x64_insn.specs.declared.types.Wide.TheVariants as wide
 use Rattle.jz_operations.specs.declared.operation.Arg.TheVariants as arg
 use Rattle.jz_operations.specs.declared.operation.Action.TheVariants as action
+use Rattle.jz_operations.specs.Reading.{needs_of}
 use Rattle.jz_change.specs.declared.change.Number.TheVariants.{Nth}
 use Rattle.jz_change.specs.declared.change.Numbers.TheVariants.{These}
 use Rattle.jz_homes.specs.Operands.{silent, told}
+use Rattle.jz_row_operations.specs.Codes.{no_flag}
 use Rattle.jz_row_operations.specs.Table.{two_code}
 use Rattle.jz_flag_rows.specs.Wide.{is_apart, wide_code, wide_shown, divide_code, divide_shown, divide_two_code, divide_two_shown}
 use Rattle.jz_flag_rows.specs.Instructions.{swap_code, count_code}
@@ -46,6 +49,11 @@ no_low = refl
 
 no_high : wide_code S64 None (Some (record { variable = 7; span = record { line = 5; col = 6 } })) (arg.Var 0) (arg.Var 1) ≡ Some (action.Mov S64 (arg.At reg.Rax (Some (record { variable = 7; span = record { line = 5; col = 6 } }))) (arg.Var 0) ∷ action.Wide wide.Mul S64 (Some (record { variable = 7; span = record { line = 5; col = 6 } })) None (arg.Var 1) ∷ [])
 no_high = refl
+
+-- one variable is asked for RDX and for RAX
+one_variable : needs_of (record { span = record { line = 5; col = 1 }; action = action.Wide wide.Mul S64 (Some (record { variable = 7; span = record { line = 5; col = 6 } })) (Some (record { variable = 7; span = record { line = 5; col = 3 } })) (arg.Var 1); flags = no_flag })
+    ≡ record { variable = 7; place = place.Reg reg.Rax; span = record { line = 5; col = 6 } } ∷ record { variable = 7; place = place.Reg reg.Rax; span = record { line = 5; col = 6 } } ∷ record { variable = 7; place = place.Reg reg.Rdx; span = record { line = 5; col = 3 } } ∷ []
+one_variable = refl
 
 -- an access of the second operand is the second number
 both_accesses : wide_shown (Some (record { variable = 7; span = record { line = 5; col = 6 } })) (arg.Mem (record { base = Some 0; index = None; disp = pos 8 })) (arg.Mem (record { base = Some 1; index = None; disp = pos 8 })) told told ≡ These (Nth 0 ∷ []) ∷ These (Nth 1 ∷ []) ∷ []

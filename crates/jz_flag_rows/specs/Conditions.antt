@@ -5,6 +5,7 @@ use Rattle.jz_io.specs.declared.span.Span.{Span}
 use Rattle.jz_tree.specs.declared.expr.Expr.{Expr}
 use Rattle.jz_tree.specs.declared.expr.Expr.TheVariants as expr
 use Rattle.jz_tree.specs.declared.expr.Var.{Var}
+use Rattle.jz_meaning.specs.declared.access.Kind.TheVariants as kind
 use Rattle.jz_meaning.specs.Values.{key_of, ref_of}
 use Rattle.jz_meaning.specs.Statements as source
 use Rattle.jz_operations.specs.declared.operation.Condition.{Condition}
@@ -20,7 +21,8 @@ use Rattle.jz_row_operations.specs.Lowering.{condition_shown, IsCompared}
 -- a bool variable, and how often it is denied: its flag, which holds or does not
 pub data IsFlagCondition (home : Homes) : Expr → ℕ → Bool → Type 0 where
   a_flag :
-      (x : Var) (n : ℕ) → home (key_of (ref_of x)) ≡ Some (in_flag n)
+      (x : Var) (n : ℕ) → (ref_of x).kind ≡ kind.Bool
+      → home (key_of (ref_of x)) ≡ Some (in_flag n)
       → IsFlagCondition home (expr.Var x) n false
   denied :
       {e : Expr} {n : ℕ} {d : Bool} (here : Span)

@@ -1,5 +1,5 @@
 -- The actions of an intrinsic, by its name, its results and its operands.
-use Rattle.std.specs.Prelude.{◌≡◌, ◌<◌, ℕ, Bool, true, false, not, List, [], ◌∷◌, ◌++◌, Option, Some, None, ℤ, pos}
+use Rattle.std.specs.Prelude.{◌≡◌, ◌<◌, ℕ, Bool, true, false, not, List, [], ◌∷◌, ◌++◌, Option, Some, None, ℤ, pos, ⊤}
 use Rattle.jz_words.specs.declared.size.Size.{Size}
 use Rattle.jz_words.specs.declared.size.Size.TheVariants.{S8, S64}
 use Rattle.jz_words.specs.Sizes.{bits_of}
@@ -32,7 +32,7 @@ use Rattle.jz_homes.specs.Homes.{Homes, in_register, in_flag}
 use Rattle.jz_homes.specs.Sums.{Sum, sum_of, IsSum, IsAddress}
 use Rattle.jz_homes.specs.Operands.{Leaks, silent, count_of, IsArg, IsDest}
 use Rattle.jz_row_operations.specs.Codes.{no_flag}
-use Rattle.jz_row_operations.specs.Rows.{IsWide, NotImm, NotBothImm, mask_of}
+use Rattle.jz_row_operations.specs.Rows.{IsWide, NotImm, mask_of}
 use Rattle.jz_row_operations.specs.Table.{is_imm, nothing, brought, behind, two_code, one_code, times_code, times_by_code, shift_code, shift_by_code}
 use Rattle.jz_row_operations.specs.Lowering.{numbers_from, two_shown, one_shown}
 use Rattle.jz_flag_rows.specs.Results.{IsPinned, AreFive, AreFour, AreTwo}
@@ -76,6 +76,12 @@ rotation_named name.Rol = Some shift.Rol
 rotation_named name.Ror = Some shift.Ror
 rotation_named _ = None
 
+-- an operand that is no access: a variable or a number
+abbrev pub NotAccess : Arg → Type 0
+NotAccess (arg.Mem a) = ⊥
+NotAccess (arg.Cell c) = ⊥
+NotAccess _ = ⊤
+
 -- ---- BSWAP writes a variable
 abbrev pub swap_code : Size → ℕ → Arg → Option (List Action)
 swap_code z v a = behind (λ x. action.Bswap z v) (brought false z (arg.Var v) a nothing)
@@ -107,21 +113,22 @@ count_code kind z d a None n = shift_code kind z d a n
 count_code kind z d a (Some k) n = shift_by_code kind z d a k
 
 -- ---- the rows
--- the results, the operands, the variables of the flags, the actions, and what each of them shows
+-- The results, the operands, the variables of the flags, the actions, and what each of them shows.
+-- Each operand is one by itself: two numbers are two operands here, which in `a + o` are one.
 pub data HasInstruction (home : Homes) (z : Size) :
     Intrinsic → List Lval → List Expr → Flags → List Action → List Numbers → Type 0 where
   two_operands :
       {i : Intrinsic} {k : Alu × Bool} {to : List Lval} {d : Lval} {a c : Expr} {x y b : Arg}
       {p q r : Leaks} {fl : Flags} {acts : List Action}
       → two_of i ≡ Some k → AreFive home to fl (d ∷ [])
-      → IsArg home z a x p → IsArg home z c y q → IsDest home z d b r → NotBothImm x y
+      → IsArg home z a x p → IsArg home z c y q → IsDest home z d b r
       → two_code k.0 k.1 z b x y None ≡ Some acts
       → HasInstruction home z i to (a ∷ c ∷ []) fl acts (two_shown k.1 b x y p q)
   with_carry :
       {i : Intrinsic} {k : Alu × Bool} {to : List Lval} {d : Lval} {a c : Expr} {x y b : Arg}
       {p q r : Leaks} {fl : Flags} {acts : List Action} (f : Var) (carry : Pinned)
       → carry_of i ≡ Some k → AreFive home to fl (d ∷ [])
-      → IsArg home z a x p → IsArg home z c y q → IsDest home z d b r → NotBothImm x y
+      → IsArg home z a x p → IsArg home z c y q → IsDest home z d b r
       → home (key_of (ref_of f)) ≡ Some (in_flag carry.variable)
       → carry.span ≡ (ref_of f).span
       → two_code k.0 k.1 z b x y (Some carry) ≡ Some acts
@@ -129,23 +136,22 @@ pub data HasInstruction (home : Homes) (z : Size) :
   minus :
       {to : List Lval} {d : Lval} {a : Expr} {x b : Arg} {p r : Leaks} {fl : Flags}
       {acts : List Action}
-      → AreFive home to fl (d ∷ []) → IsArg home z a x p → IsDest home z d b r → NotImm x
+      → AreFive home to fl (d ∷ []) → IsArg home z a x p → IsDest home z d b r
       → one_code one.Neg z b x ≡ Some acts
       → HasInstruction home z name.Neg to (a ∷ []) fl acts (one_shown b x p)
   steps :
       {i : Intrinsic} {k : One} {to : List Lval} {d : Lval} {a : Expr} {x b : Arg} {p r : Leaks}
       {fl : Flags} {acts : List Action}
       → step_of i ≡ Some k → AreFour home to fl (d ∷ []) → IsArg home z a x p
-      → IsDest home z d b r → NotImm x → one_code k z b x ≡ Some acts
+      → IsDest home z d b r → one_code k z b x ≡ Some acts
       → HasInstruction home z i to (a ∷ []) fl acts (one_shown b x p)
   complement :
       {d : Lval} {a : Expr} {x b : Arg} {p r : Leaks} {acts : List Action}
-      → IsArg home z a x p → IsDest home z d b r → NotImm x
-      → one_code one.Not z b x ≡ Some acts
+      → IsArg home z a x p → IsDest home z d b r → one_code one.Not z b x ≡ Some acts
       → HasInstruction home z name.Not (d ∷ []) (a ∷ []) no_flag acts (one_shown b x p)
   swap :
       {d : Lval} {a : Expr} {x : Arg} {v : ℕ} {p : Leaks} {acts : List Action}
-      → IsLong z → IsArg home z a x p → IsDest home z d (arg.Var v) silent → NotImm x
+      → IsLong z → IsArg home z a x p → IsDest home z d (arg.Var v) silent
       → swap_code z v x ≡ Some acts
       → HasInstruction home z name.Bswap (d ∷ []) (a ∷ []) no_flag acts (one_shown (arg.Var v) x p)
   address :
@@ -157,20 +163,20 @@ pub data HasInstruction (home : Homes) (z : Size) :
       {i : Intrinsic} {k : Alu} {to : List Lval} {a c : Expr} {x y : Arg} {p q : Leaks}
       {fl : Flags}
       → compare_of i ≡ Some k → AreFive home to fl [] → IsArg home z a x p → IsArg home z c y q
-      → NotImm x
+      → NotImm x → NotAccess y
       → HasInstruction home z i to (a ∷ c ∷ []) fl (action.Alu k z x y None ∷ [])
       (These (numbers_from p 0 ++ numbers_from q (count_of p)) ∷ [])
   shifts :
       {i : Intrinsic} {k : Shift} {to : List Lval} {d : Lval} {a c : Expr} {x b : Arg}
       {n : Option Pinned} {m : ℕ} {p r : Leaks} {fl : Flags} {acts : List Action}
       → shift_named i ≡ Some k → AreFive home to fl (d ∷ []) → IsArg home z a x p
-      → IsCount home z c n m → IsDest home z d b r → NotImm x → count_code k z b x n m ≡ Some acts
+      → IsCount home z c n m → IsDest home z d b r → count_code k z b x n m ≡ Some acts
       → HasInstruction home z i to (a ∷ c ∷ []) fl acts (one_shown b x p)
   rotates :
       {i : Intrinsic} {k : Shift} {to : List Lval} {d : Lval} {a c : Expr} {x b : Arg}
       {n : Option Pinned} {m : ℕ} {p r : Leaks} {fl : Flags} {acts : List Action}
       → rotation_named i ≡ Some k → AreTwo home to fl (d ∷ []) → IsArg home z a x p
-      → IsCount home z c n m → IsDest home z d b r → NotImm x → count_code k z b x n m ≡ Some acts
+      → IsCount home z c n m → IsDest home z d b r → count_code k z b x n m ≡ Some acts
       → HasInstruction home z i to (a ∷ c ∷ []) fl acts (one_shown b x p)
   times :
       {to : List Lval} {d : Lval} {a c : Expr} {x y : Arg} {v : ℕ} {p q : Leaks} {fl : Flags}
@@ -189,7 +195,8 @@ pub data HasInstruction (home : Homes) (z : Size) :
       {to : List Lval} {h l : Lval} {hk lk : Option Pinned} {a c : Expr} {x y : Arg} {p q : Leaks}
       {fl : Flags} {acts : List Action}
       → IsLong z → AreFive home to fl (h ∷ l ∷ []) → IsPinned home z h hk → IsPinned home z l lk
-      → IsArg home z a x p → IsArg home z c y q → NotImm y → wide_code z hk lk x y ≡ Some acts
+      → IsArg home z a x p → IsArg home z c y q → NotImm y
+      → wide_code z hk lk x y ≡ Some acts
       → HasInstruction home z name.Mul to (a ∷ c ∷ []) fl acts (wide_shown lk x y p q)
   division :
       {to : List Lval} {q r : Lval} {qk rk : Option Pinned} {hi lo c : Expr} {x y w : Arg}
@@ -197,5 +204,6 @@ pub data HasInstruction (home : Homes) (z : Size) :
       → IsLong z → AreFive home to fl (q ∷ r ∷ []) → IsPinned home z q qk → IsPinned home z r rk
       → IsArg home z hi x p → IsArg home z lo y s → IsArg home z c w u → NotImm w
       → is_apart qk x ≡ true → is_apart qk w ≡ true → is_apart rk w ≡ true
-      → HasInstruction home z name.Div to (hi ∷ lo ∷ c ∷ []) fl (divide_two_code z qk rk x y w)
+      → HasInstruction home z name.Div to (hi ∷ lo ∷ c ∷ []) fl
+      (divide_two_code z qk rk x y w)
       (divide_two_shown p s u)

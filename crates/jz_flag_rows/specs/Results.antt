@@ -1,5 +1,5 @@
 -- Left sides that an instruction writes at a place of its own: flags, and words in RAX and RDX.
-use Rattle.std.specs.Prelude.{◌≡◌, List, ◌∷◌, Option, Some, None}
+use Rattle.std.specs.Prelude.{◌≡◌, List, [], ◌∷◌, Option, Some, None}
 use Rattle.jz_words.specs.declared.size.Size.{Size}
 use Rattle.jz_io.specs.declared.span.Span.{Span}
 use Rattle.jz_tree.specs.declared.expr.Var.{Var}
@@ -7,9 +7,15 @@ use Rattle.jz_tree.specs.declared.stmt.Lval.{Lval}
 use Rattle.jz_tree.specs.declared.stmt.Lval.TheVariants as lval
 use Rattle.jz_meaning.specs.declared.access.Kind.TheVariants as kind
 use Rattle.jz_meaning.specs.Values.{key_of, ref_of}
+use Rattle.jz_meaning.specs.Assignments.{left_span}
 use Rattle.jz_operations.specs.declared.operation.Pinned.{Pinned}
 use Rattle.jz_operations.specs.declared.operation.Flags.{Flags}
 use Rattle.jz_homes.specs.Homes.{Homes, in_register, in_flag}
+
+-- a statement of several results, or of an intrinsic, begins where its first left side does
+abbrev pub begins_at : List Lval → Span → Span
+begins_at [] at = at
+begins_at (d ∷ ds) at = left_span d
 
 -- a flag is a bool variable, where the text names it, or `_`
 pub data IsFlag (home : Homes) : Lval → Option Pinned → Type 0 where

@@ -1,5 +1,6 @@
 -- The statements whose operations write or read flags, RAX, RDX or RCX by themselves: the rows of
--- the pattern table that jz_row_operations has not.
+-- the pattern table that jz_row_operations has not. The place that an intrinsic carries is that of
+-- its name; its operations stand where the statement begins.
 use Rattle.std.specs.Prelude.{◌≡◌, ℕ, Bool, true, List, [], ◌∷◌, ◌++◌, All, Option, Some, None, ⊤}
 use Rattle.std.specs.Option.{option_or, option_to_list}
 use Rattle.jz_words.specs.declared.size.Size.{Size}
@@ -20,7 +21,7 @@ use Rattle.jz_tree.specs.declared.stmt.Lval.{Lval}
 use Rattle.jz_tree.specs.declared.stmt.Lval.TheVariants as lval
 use Rattle.jz_meaning.specs.declared.access.Kind.TheVariants as kind
 use Rattle.jz_meaning.specs.Values.{key_of, ref_of, own_size}
-use Rattle.jz_meaning.specs.Assignments.{Layer, left_sizes, whole_of}
+use Rattle.jz_meaning.specs.Assignments.{Layer, left_span, left_sizes, whole_of}
 use Rattle.jz_meaning.specs.Intrinsics.{intrinsic_size}
 use Rattle.jz_meaning.specs.Statements as source
 use Rattle.jz_meaning.specs.Statements.{assign, instruction}
@@ -40,7 +41,7 @@ use Rattle.jz_homes.specs.Operands.{Leaks, IsArg, IsDest}
 use Rattle.jz_row_operations.specs.Codes.{no_flag, plain, lasting}
 use Rattle.jz_row_operations.specs.Rows.{IsWide, NotImm}
 use Rattle.jz_row_operations.specs.Lowering.{numbers_from, HasRow}
-use Rattle.jz_flag_rows.specs.Results.{IsFlag, IsPinned, carry_alone}
+use Rattle.jz_flag_rows.specs.Results.{begins_at, IsFlag, IsPinned, carry_alone}
 use Rattle.jz_flag_rows.specs.Wide.{IsLong, divider, is_apart, wide_code, wide_shown, quotient_code, divide_shown}
 use Rattle.jz_flag_rows.specs.Conditions.{IsFlagCondition, IsCondition, condition_items, leaked}
 use Rattle.jz_flag_rows.specs.Instructions.{HasInstruction}
@@ -51,7 +52,7 @@ IsSumLayer (Expr-F.Bin op.Add a b at) = ⊤
 IsSumLayer (Expr-F.Bin op.Sub a b at) = ⊤
 IsSumLayer _ = ⊥
 
--- the flags of the statement are those of its last operation
+-- each at the statement's place; the flags of the statement are those of its last operation
 pub data LowersFlags (home : Homes) :
     source.Operation → List Operation → List Numbers → Type 0 where
   -- `cf, d = a + o`, `cf, d = a - o`, and with a flag behind
@@ -98,13 +99,13 @@ pub data LowersFlags (home : Homes) :
       {acts : List Action} {items : List Numbers} {at : Span}
       → spelled ns ≡ Some i → intrinsic_size i.name i.size to args ≡ Some z
       → HasInstruction home z i.name to args fl acts items → All CanEncode acts
-      → LowersFlags home (instruction to ns args at) (lasting at fl acts) items
+      → LowersFlags home (instruction to ns args at) (lasting (begins_at to at) fl acts) items
   -- `#SETcc(c)`: a byte
   sets :
       {i : Instance} {d : Lval} {ns : List ℕ} {e : Expr} {b : Arg} {r : Leaks}
       {compare : Option Operation} {c : Condition} {ps : List (Leaks × Leaks)} {at : Span}
       → spelled ns ≡ Some i → i.name ≡ name.Setcc → IsDest home S8 d b r
-      → IsCondition home at e compare c ps → CanEncode (action.Set c b)
+      → IsCondition home (left_span d) e compare c ps → CanEncode (action.Set c b)
       → LowersFlags home (instruction (d ∷ []) ns (e ∷ []) at)
-      (option_to_list compare ++ (plain at (action.Set c b) ∷ []))
+      (option_to_list compare ++ (plain (left_span d) (action.Set c b) ∷ []))
       (condition_items ps 0 ++ (These (numbers_from r (leaked ps)) ∷ []))

@@ -38,6 +38,7 @@ is_apart None x = true
 is_apart (Some k) x = not (among (is_var x ++ found_by x) k.variable)
 
 -- ---- `h, l = a * b`
+-- One variable that is both is asked for RAX and for RDX: it has no place.
 -- The low word's variable is the first operand; or the first operand is no number and the low
 -- word's variable is the second one, and they are swapped; or it stands nowhere in the second
 -- operand, and the first is copied to RAX.

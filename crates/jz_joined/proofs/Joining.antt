@@ -27,7 +27,7 @@ use Rattle.jz_inline.specs.Functions.{Given, body_runs, IsBodyRun}
 use Rattle.jz_function_runs.specs.FunctionRuns.{plain_body, alike_where}
 use Rattle.jz_place.specs.Bodies as ir
 use Rattle.jz_homes.specs.Homes.{IsRelated}
-use Rattle.jz_row_operations.specs.Bodies.{beside}
+use Rattle.jz_every_row.specs.Bodies.{beside}
 use Rattle.jz_lowered.specs.Functions.{entry_of, ArePassed}
 use Rattle.jz_lowered.proofs.Entries.{entered}
 use Rattle.jz_listing.specs.declared.compiled.Compiled.{Compiled}

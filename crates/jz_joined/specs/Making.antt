@@ -24,7 +24,7 @@ use Rattle.jz_function_runs.specs.FunctionRuns.{plain_body, alike_where}
 use Rattle.jz_place.specs.declared.tree.Ir.{Ir}
 use Rattle.jz_place.specs.Bodies as ir
 use Rattle.jz_homes.specs.Homes.{Homes, IsHoming, in_register}
-use Rattle.jz_row_operations.specs.Bodies.{beside}
+use Rattle.jz_every_row.specs.Bodies.{beside}
 use Rattle.jz_lowered.specs.Functions.{IsLoweredFun}
 use Rattle.jz_listing.specs.declared.compiled.Arg.{Arg}
 use Rattle.jz_listing.specs.declared.compiled.Compiled.{Compiled}

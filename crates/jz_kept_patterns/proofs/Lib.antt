@@ -3,5 +3,8 @@ pub mod ValuedTrees
 pub mod ScaledTrees
 pub mod Operands
 pub mod Matching
+pub mod PairMatching
 pub mod Selecting
+pub mod InstructionMatching
+pub mod Instructing
 pub mod Whole

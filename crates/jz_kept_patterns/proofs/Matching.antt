@@ -1,9 +1,10 @@
 -- A row that matches before matches behind.
-use Rattle.std.proofs.Common.{◌≡◌, inl, inr, Bool, true, false, ◌&&◌, ◌||◌, not, ◌++◌, map, None, refl, sym, ap, ap₂, ◌∙◌}
+use Rattle.std.proofs.Common.{◌≡◌, inl, inr, Bool, true, false, ◌&&◌, ◌||◌, not, ◌++◌, map, Option, None, refl, sym, ap, ap₂, ◌∙◌}
 use Rattle.std.specs.Prelude.{◌⊎◌}
 use Rattle.std.specs.Option.{option_or}
 use Rattle.std.specs.List.{list_any}
 use Rattle.std.proofs.lemmas.Bool.{false≢true, and_parts, and_from}
+use Rattle.jz_tree.specs.Size.{Size}
 use Rattle.jz_tree.specs.Operators.{divides, is_shift}
 use Rattle.jz_tree.specs.declared.expr.BinOp.{BinOp}
 use Rattle.jz_select.specs.declared.class.Class.{Class}
@@ -22,14 +23,14 @@ use Rattle.jz_kept_classes.proofs.Kept.{same_class}
 use Rattle.jz_kept_patterns.proofs.Operands.{KeptOperand, ValueMeets, m_alone, m_one, m_two, m_carry, m_inner, m_cast}
 
 -- ---- truths
-next : (a b c d : Bool) → (a ≡ true → c ≡ true) → (b ≡ true → d ≡ true) → (a || b) ≡ true → (c || d) ≡ true
+pub next : (a b c d : Bool) → (a ≡ true → c ≡ true) → (b ≡ true → d ≡ true) → (a || b) ≡ true → (c || d) ≡ true
 next a b c d f g h = by_part (or_parts a b h)
   where
     by_part : (a ≡ true) ⊎ (b ≡ true) → (c || d) ≡ true
     by_part (inl x) = or_left c d (f x)
     by_part (inr y) = or_right c d (g y)
 
-none : (b : Bool) → false ≡ true → b ≡ true
+pub none : (b : Bool) → false ≡ true → b ≡ true
 none b e = absurd (false≢true e)
 
 inline_no_memory : (c : Class) → is_i c ≡ true → is_m c ≡ false
@@ -92,13 +93,13 @@ module _ (d w l u : Class) (F : KeepsClass d l) (K : KeepsClass w u) where
 
   -- ---- operands
   module _ (a c : Operand) (x : KeptOperand (is_r d) a c) where
-    rmi_first : is_rmi a.class ≡ true → c.class ≡ a.class
+    pub rmi_first : is_rmi a.class ≡ true → c.class ≡ a.class
     rmi_first h = same_class is_rmi refl a.class c.class x.kept h
 
     change_ways : (rd sa sa' : Bool) → (sa ≡ true → sa' ≡ true) → (sa || rd) ≡ true → (sa' || rd) ≡ true
     change_ways rd sa sa' f h = next sa rd sa' rd f (λ e. e) h
 
-    changes_kept : changes d a ≡ true → changes l c ≡ true
+    pub changes_kept : changes d a ≡ true → changes l c ≡ true
     changes_kept h =
         let y = and_parts (is_rm d) (is_rmi a.class && (is_same a || is_r d)) h in
         let z = and_parts (is_rmi a.class) (is_same a || is_r d) y.1 in
@@ -108,7 +109,7 @@ module _ (d w l u : Class) (F : KeepsClass d l) (K : KeepsClass w u) where
         (and_from (is_rmi c.class) (is_same c || is_r d) (ap is_rmi (rmi_first z.0) ∙ z.0) (change_ways (is_r d) (is_same a) (is_same c) x.same z.1))
 
     module _ (o e : Operand) (y : KeptOperand (is_r d) o e) where
-      computes_kept : (sw : Bool) → e.class ≡ o.class → computes sw d a o ≡ true → computes sw l c e ≡ true
+      pub computes_kept : (sw : Bool) → e.class ≡ o.class → computes sw d a o ≡ true → computes sw l c e ≡ true
       computes_kept sw eo h =
           let p = and_parts (is_rm d) (is_rmi a.class && ways sw (is_m d) (is_r d) (is_m a.class) (is_m o.class) (is_same a) (is_same o) (is_apart o)) h in
           let q = and_parts (is_rmi a.class) (ways sw (is_m d) (is_r d) (is_m a.class) (is_m o.class) (is_same a) (is_same o) (is_apart o)) p.1 in
@@ -120,16 +121,16 @@ module _ (d w l u : Class) (F : KeepsClass d l) (K : KeepsClass w u) where
           (and_from (is_rmi a.class) (ways sw (is_m d) (is_r d) (is_m a.class) (is_m o.class) (is_same c) (is_same e) (is_apart e)) q.0
           (ways_kept sw (is_m d) (is_r d) (is_m a.class) (is_m o.class) (is_same a) (is_same o) (is_apart o) (is_same c) (is_same e) (is_apart e) x.same y.same y.apart q.1)))
 
-      first_rmi : (sw : Bool) → computes sw d a o ≡ true → is_rmi a.class ≡ true
+      pub first_rmi : (sw : Bool) → computes sw d a o ≡ true → is_rmi a.class ≡ true
       first_rmi sw h = (and_parts (is_rmi a.class) _ (and_parts (is_rm d) _ h).1).0
 
-      rmi_second : is_rmi o.class ≡ true → e.class ≡ o.class
+      pub rmi_second : is_rmi o.class ≡ true → e.class ≡ o.class
       rmi_second h = same_class is_rmi refl o.class e.class y.kept h
 
-      abbrev Sums : Bool → Class → Operand → Operand → Bool
+      abbrev pub Sums : Bool → Class → Operand → Operand → Bool
       Sums sw t f g = is_rmi g.class && (not (are_inline f g) && computes sw t f g)
 
-      sums_kept : (sw : Bool) → Sums sw d a o ≡ true → Sums sw l c e ≡ true
+      pub sums_kept : (sw : Bool) → Sums sw d a o ≡ true → Sums sw l c e ≡ true
       sums_kept sw h =
           let p = and_parts (is_rmi o.class) (not (are_inline a o) && computes sw d a o) h in
           let q = and_parts (not (are_inline a o)) (computes sw d a o) p.1 in
@@ -148,7 +149,7 @@ module _ (d w l u : Class) (F : KeepsClass d l) (K : KeepsClass w u) where
       row3 : (p : BinOp) → p3 (S (values.Carry p a o)) ≡ true → p3 (Z (values.Carry p c e)) ≡ true
       row3 p h = sums_kept (swaps p) h
 
-      times_kept : times d a o ≡ true → times l c e ≡ true
+      pub times_kept : times d a o ≡ true → times l c e ≡ true
       times_kept h =
           let p = and_parts (is_r d) (is_wide (class_size d) && (is_rm o.class && computes (not (is_i a.class)) d a o)) h in
           let q = and_parts (is_wide (class_size d)) (is_rm o.class && computes (not (is_i a.class)) d a o) p.1 in
@@ -164,7 +165,7 @@ module _ (d w l u : Class) (F : KeepsClass d l) (K : KeepsClass w u) where
       row5 : (p : BinOp) → p5 (S (values.Two p a o)) ≡ true → p5 (Z (values.Two p c e)) ≡ true
       row5 p h = let x = and_parts (multiplies p) (times d a o) h in and_from (multiplies p) (times l c e) x.0 (times_kept x.1)
 
-      inline_kept : times_inline d a o ≡ true → times_inline l c e ≡ true
+      pub inline_kept : times_inline d a o ≡ true → times_inline l c e ≡ true
       inline_kept h =
           let p = and_parts (is_r d) (is_wide (class_size d) && (is_rm a.class && is_i o.class)) h in
           let q = and_parts (is_wide (class_size d)) (is_rm a.class && is_i o.class) p.1 in
@@ -190,29 +191,30 @@ module _ (d w l u : Class) (F : KeepsClass d l) (K : KeepsClass w u) where
       row8 : (p : BinOp) → p8 (S (values.Two p a o)) ≡ true → p8 (Z (values.Two p c e)) ≡ true
       row8 p h = let x = and_parts (divides p) (is_quotient d a o) h in and_from (divides p) (is_quotient l c e) x.0 (quotient_kept x.1)
 
+      pub shifts_kept : shifts_inline d a o ≡ true → shifts_inline l c e ≡ true
+      shifts_kept h =
+          let q = and_parts (is_i o.class) (changes d a) h in
+          and_from (is_i e.class) (changes l c) (ap is_i (same_class is_i refl o.class e.class y.kept q.0) ∙ q.0) (changes_kept q.1)
+
       row9 : (p : BinOp) → p9 (S (values.Two p a o)) ≡ true → p9 (Z (values.Two p c e)) ≡ true
-      row9 p h =
-          let x = and_parts (is_shift p) (shifts_inline d a o) h in
-          let q = and_parts (is_i o.class) (changes d a) x.1 in
-          and_from (is_shift p) (shifts_inline l c e) x.0
-          (and_from (is_i e.class) (changes l c) (ap is_i (same_class is_i refl o.class e.class y.kept q.0) ∙ q.0) (changes_kept q.1))
+      row9 p h = let x = and_parts (is_shift p) (shifts_inline d a o) h in and_from (is_shift p) (shifts_inline l c e) x.0 (shifts_kept x.1)
 
-      abbrev Longest : Class → Class → Bool
-      Longest s t = is_longest (option_or (class_size s) (class_size t))
+      abbrev Longest : Option Size → Class → Class → Bool
+      Longest z s t = is_longest (option_or z (option_or (class_size s) (class_size t)))
 
-      masked_kept : (masks (Longest d a.class) o.class && computes false d a o) ≡ true → (masks (Longest l c.class) e.class && computes false l c e) ≡ true
-      masked_kept h =
-          let q = and_parts (masks (Longest d a.class) o.class) (computes false d a o) h in
+      pub masked_kept : (z : Option Size) → shifts_masked z d a o ≡ true → shifts_masked z l c e ≡ true
+      masked_kept z h =
+          let q = and_parts (masks (Longest z d a.class) o.class) (computes false d a o) h in
           let le = rm_same (and_parts (is_rm d) _ q.1).0 in
           let ca = rmi_first (first_rmi false q.1) in
-          let eo : e.class ≡ o.class = same_class (masks (Longest d a.class)) refl o.class e.class y.kept q.0 in
-          and_from (masks (Longest l c.class) e.class) (computes false l c e)
-          (ap₂ (λ s t. masks (Longest s t) e.class) le ca ∙ (ap (masks (Longest d a.class)) eo ∙ q.0)) (computes_kept false eo q.1)
+          let eo : e.class ≡ o.class = same_class (masks (Longest z d a.class)) refl o.class e.class y.kept q.0 in
+          and_from (masks (Longest z l c.class) e.class) (computes false l c e)
+          (ap₂ (λ s t. masks (Longest z s t) e.class) le ca ∙ (ap (masks (Longest z d a.class)) eo ∙ q.0)) (computes_kept false eo q.1)
 
       row10 : (p : BinOp) → p10 (S (values.Two p a o)) ≡ true → p10 (Z (values.Two p c e)) ≡ true
       row10 p h =
           let x = and_parts (is_shift p) (shifts_masked None d a o) h in
-          and_from (is_shift p) (shifts_masked None l c e) x.0 (masked_kept x.1)
+          and_from (is_shift p) (shifts_masked None l c e) x.0 (masked_kept None x.1)
 
   row4 : (a c : Operand) → KeptOperand (is_r d) a c → p4 (S (values.One a)) ≡ true → p4 (Z (values.One c)) ≡ true
   row4 a c x h = changes_kept a c x h

@@ -1,6 +1,6 @@
 -- The value of an assignment with its operands, where each keeps its class and how it meets the
 -- destination.
-use Rattle.std.proofs.Common.{◌≡◌, inl, inr, Bool, true, false, ◌&&◌, Some, None, refl, sym, ap, ap₂, ◌∙◌, subst, if◌then◌else◌}
+use Rattle.std.proofs.Common.{◌≡◌, inl, inr, Bool, true, false, ◌&&◌, Option, Some, None, refl, sym, ap, ap₂, ◌∙◌, subst, if◌then◌else◌}
 use Rattle.std.specs.Prelude.{◌⊎◌}
 use Rattle.std.proofs.lemmas.Bool.{false≢true, and_parts, and_from}
 use Rattle.jz_tree.specs.Size.{Size}
@@ -22,7 +22,7 @@ use Rattle.jz_select.specs.Places.{Answers}
 use Rattle.jz_select.specs.Sums.{is_address}
 use Rattle.jz_select.specs.Look.{terms_of}
 use Rattle.jz_select.specs.Operands.{class_if, class_of, dest_of, operand_of}
-use Rattle.jz_select.specs.Rows.{is_i, is_r, is_rmi, is_flag, is_same_place, is_apart_from, is_same, is_apart, are_inline}
+use Rattle.jz_select.specs.Rows.{is_i, is_r, is_rmi, is_flag, is_pinned, is_same_place, is_apart_from, is_same, is_apart, are_inline}
 use Rattle.jz_select.specs.Shapes.{Asked, whichever, itself, beside, carry_layer, two_beside, value_layer, update_layer}
 use Rattle.jz_judgement.specs.HasType.{Layer}
 use Rattle.jz_unroll.proofs.InlineParts.{inline_layer, inline_out}
@@ -63,6 +63,34 @@ operand_by t answers d l e b c p q k =
       same = λ h. ap is_same_place behind ∙ k.same (sym (ap is_same_place before) ∙ h);
       apart = λ r h. ap is_apart_from behind ∙ k.apart (named d r) (sym (ap is_apart_from before) ∙ h);
     }
+
+-- ---- what a result that is pinned does not stand in
+pub record KeptBeside (d : Lval) (a c : Operand) : Type 0 where
+  pub operand : KeptOperand (is_r (dest_of d)) a c
+  pub apart : is_pinned (dest_of d) ≡ true → is_apart a ≡ true → is_apart c ≡ true
+
+no_pinned : (b : Bool) (z : Option Size) → is_pinned (class_if b (class.Mem z)) ≡ true → ⊥
+no_pinned true z e = false≢true e
+no_pinned false z e = false≢true e
+
+module _ (t : Turn) (answers : Answers) (l : Lval) (e b : Expr) where
+  abbrev MeetsSo : Lval → Type 0
+  MeetsSo d = KeepsMeeting (place_of d) (meets (pulled t answers) (place_of d) (tree_of e)) (meets answers (turned_place t (place_of d)) (turned t (tree_of e)))
+
+  named_apart : (d : Lval) → IsNamed (place_of d) → place_of l ≡ turned_place t (place_of d) → tree_of b ≡ turned t (tree_of e) → MeetsSo d
+      → is_apart (operand_of (pulled t answers) d e) ≡ true → is_apart (operand_of answers l b) ≡ true
+  named_apart d n p q k h =
+      ap is_apart_from (meeting_is answers l b ∙ ap₂ (λ x y. meets answers x y) p q) ∙ k.apart n (sym (ap is_apart_from (meeting_is (pulled t answers) d e)) ∙ h)
+
+  pinned_apart : (d : Lval) → place_of l ≡ turned_place t (place_of d) → tree_of b ≡ turned t (tree_of e) → MeetsSo d
+      → is_pinned (dest_of d) ≡ true → is_apart (operand_of (pulled t answers) d e) ≡ true → is_apart (operand_of answers l b) ≡ true
+  pinned_apart (lval.Skip at) p q k n h = ap is_apart_from (meeting_is answers l b ∙ ap₂ (λ x y. meets answers x y) p q)
+  pinned_apart (lval.Var v) p q k n h = named_apart (lval.Var v) tt p q k h
+  pinned_apart (lval.Cell v i) p q k n h = named_apart (lval.Cell v i) tt p q k h
+  pinned_apart (lval.Store a) p q k n h = absurd (no_pinned (is_address (terms_of (out-Access a).at)) (out-Access a).size n)
+
+  pub beside_by : (d : Lval) → KeepsClass (class_of e) (class_of b) → place_of l ≡ turned_place t (place_of d) → tree_of b ≡ turned t (tree_of e) → MeetsSo d → KeptBeside d (operand_of (pulled t answers) d e) (operand_of answers l b)
+  beside_by d c p q k = record { operand = operand_by t answers d l e b c p q k; apart = pinned_apart d p q k }
 
 pub itself_kept : (d l : Lval) → KeepsClass (dest_of d) (dest_of l) → KeptOperand (is_r (dest_of d)) (itself d) (itself l)
 itself_kept d l f = record { kept = f; same = λ h. refl; apart = λ r h. absurd (false≢true h) }

@@ -1,9 +1,11 @@
 -- A row is selected just where one matches with all answers.
-use Rattle.std.proofs.Common.{◌≡◌, Bool, true, false, ◌||◌, List, [], ◌∷◌, Option, Some, None, refl, sym, ap, ◌∙◌, subst}
+use Rattle.std.proofs.Common.{◌≡◌, Bool, true, false, ◌||◌, ℕ, List, [], ◌∷◌, Option, Some, None, refl, sym, ap, ◌∙◌, subst}
 use Rattle.std.specs.List.{list_any}
 use Rattle.std.proofs.lemmas.Bool.{false≢true}
 use Rattle.std.proofs.lemmas.List.Elements.{All-head, All-tail}
 use Rattle.std.proofs.lemmas.List.Folds.{list_any-append}
+use Rattle.jz_tree.specs.Span.{Span}
+use Rattle.jz_tree.specs.Spellings.{spelled}
 use Rattle.jz_tree.specs.declared.expr.BinOp.{BinOp}
 use Rattle.jz_tree.specs.declared.expr.Expr.{Expr}
 use Rattle.jz_tree.specs.declared.stmt.Lval.{Lval}
@@ -15,13 +17,13 @@ use Rattle.jz_tree.specs.declared.stmt.StmtKind.TheViews.{out-StmtKind, out-roll
 use Rattle.jz_select.specs.declared.pattern.Pattern.{Pattern}
 use Rattle.jz_select.specs.declared.shape.Shape as rowed
 use Rattle.jz_select.specs.Places.{Answers}
-use Rattle.jz_select.specs.Shapes.{whichever, assign_of, kind_layer, shape_of}
+use Rattle.jz_select.specs.Shapes.{whichever, assign_of, named_shape, kind_layer, shape_of}
 use Rattle.jz_select.specs.Hardest.{hardest}
 use Rattle.jz_select.specs.Selected.{Row, rows, NoneMatches, FirstMatches, Tells, IsSelected, IsCopied, pattern_chosen}
 use Rattle.jz_select.proofs.FirstRow.{is_selected}
 use Rattle.jz_row_laws.proofs.Booleans.{or_left, or_right}
 use Rattle.jz_row_laws.proofs.Copied.{Matches}
-use Rattle.jz_kept_patterns.specs.Matched.{IsMatched}
+use Rattle.jz_kept_patterns.specs.Matched.{IsMatched, IsPairMatched, IsInstructionMatched}
 
 abbrev test : rowed.Shape → Row → Bool
 test s q = q.1 s
@@ -73,3 +75,36 @@ matched_always d o e c m =
 pub always_matched : (d : Lval) (o : Option BinOp) (e : Expr) (c : Option Expr) → AlwaysMatches d o e c → IsMatched d o e c
 always_matched d o e c h =
     always_selected (stmt.Assign (d ∷ []) o (rhs.Value e) c) (λ a. subst (λ x. Matches (kind_layer (whichever a) x)) (sym (out_assign d o e c)) (h a))
+
+-- ---- of two left sides
+abbrev pub PairAlways : Lval → Lval → Option BinOp → Expr → Type 0
+PairAlways f d o e = (answers : Answers) → Matches (kind_layer (whichever answers) (StmtKind-F.Assign (f ∷ d ∷ []) o (rhs.Value e) None))
+
+out_pair : (f d : Lval) (o : Option BinOp) (e : Expr) → out-StmtKind (stmt.Assign (f ∷ d ∷ []) o (rhs.Value e) None) ≡ StmtKind-F.Assign (f ∷ d ∷ []) o (rhs.Value e) None
+out_pair f d o e = ap out-StmtKind (sym (stmt.rolls-Assign (f ∷ d ∷ []) o (rhs.Value e) None)) ∙ out-roll-StmtKind (StmtKind-F.Assign (f ∷ d ∷ []) o (rhs.Value e) None)
+
+pub pair_always : (f d : Lval) (o : Option BinOp) (e : Expr) → IsPairMatched f d o e → PairAlways f d o e
+pair_always f d o e m =
+    let h = selected_always (stmt.Assign (f ∷ d ∷ []) o (rhs.Value e) None) m.0 m.1 in
+    λ a. subst (λ x. Matches (kind_layer (whichever a) x)) (out_pair f d o e) (h a)
+
+pub always_pair : (f d : Lval) (o : Option BinOp) (e : Expr) → PairAlways f d o e → IsPairMatched f d o e
+always_pair f d o e h =
+    always_selected (stmt.Assign (f ∷ d ∷ []) o (rhs.Value e) None) (λ a. subst (λ x. Matches (kind_layer (whichever a) x)) (sym (out_pair f d o e)) (h a))
+
+-- ---- intrinsics
+abbrev pub InstructionAlways : List Lval → List ℕ → List Expr → Type 0
+InstructionAlways to n args = (answers : Answers) → Matches (named_shape (whichever answers) (spelled n) to args)
+
+out_instruction : (to : List Lval) (n : List ℕ) (args : List Expr) (at : Span) → out-StmtKind (stmt.Assign to None (rhs.Intrinsic n args at) None) ≡ StmtKind-F.Assign to None (rhs.Intrinsic n args at) None
+out_instruction to n args at =
+    ap out-StmtKind (sym (stmt.rolls-Assign to None (rhs.Intrinsic n args at) None)) ∙ out-roll-StmtKind (StmtKind-F.Assign to None (rhs.Intrinsic n args at) None)
+
+pub instruction_always : (to : List Lval) (n : List ℕ) (args : List Expr) (at : Span) → IsInstructionMatched to n args at → InstructionAlways to n args
+instruction_always to n args at m =
+    let h = selected_always (stmt.Assign to None (rhs.Intrinsic n args at) None) m.0 m.1 in
+    λ a. subst (λ x. Matches (kind_layer (whichever a) x)) (out_instruction to n args at) (h a)
+
+pub always_instruction : (to : List Lval) (n : List ℕ) (args : List Expr) (at : Span) → InstructionAlways to n args → IsInstructionMatched to n args at
+always_instruction to n args at h =
+    always_selected (stmt.Assign to None (rhs.Intrinsic n args at) None) (λ a. subst (λ x. Matches (kind_layer (whichever a) x)) (sym (out_instruction to n args at)) (h a))

@@ -4,4 +4,4 @@
 
 mod laws;
 
-pub use laws::patterns_are_kept;
+pub use laws::{instructions_are_kept, pairs_are_kept, patterns_are_kept};

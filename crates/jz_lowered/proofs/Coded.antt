@@ -2,6 +2,7 @@
 use Rattle.std.proofs.Common.{◌≡◌, ℕ, zero, suc, ◌<◌, Bool, true, false, List, [], ◌∷◌, ◌++◌, length, map, Option, Some, None, sym, ap, subst, arith}
 use Rattle.std.specs.Prelude.{slice_index_or, All, Contains, ⊤}
 use Rattle.std.specs.List.{AllByRecursion}
+use Rattle.std.specs.Option.{option_to_list}
 use Rattle.std.proofs.lemmas.List.Elements.{All-nil, All-cons, All-head, All-tail, All-append, All-map}
 use Rattle.jz_io.specs.declared.span.Span.{Span}
 use Rattle.x64_insn.specs.declared.types.Alu.TheVariants as alu
@@ -13,7 +14,8 @@ use Rattle.jz_tree.specs.declared.expr.Expr.{Expr}
 use Rattle.jz_tree.specs.declared.expr.Var.{Var}
 use Rattle.jz_tree.specs.declared.program.Fun.{Fun}
 use Rattle.jz_runs.specs.Trees.{done, op, quiet, choose, loop, each, call}
-use Rattle.jz_meaning.specs.Statements.{Condition, Block}
+use Rattle.jz_meaning.specs.Assignments.{left_span}
+use Rattle.jz_meaning.specs.Statements.{Block}
 use Rattle.jz_meaning.specs.Statements as statements
 use Rattle.jz_meaning.specs.Values.{key_of, ref_of}
 use Rattle.jz_ir.specs.declared.code.Kind.{Kind}
@@ -23,14 +25,18 @@ use Rattle.jz_ir.specs.Places.{no_op, Below}
 use Rattle.jz_ir.specs.Tree as ir
 use Rattle.jz_ir.specs.Tree.{Frame, at, test, at_test, states, op_of, ops_of}
 use Rattle.jz_live.specs.Lives.{TreeBelow, TestBelow}
+use Rattle.jz_operations.specs.declared.operation.Arg.{Arg}
+use Rattle.jz_operations.specs.declared.operation.Condition.{Condition}
 use Rattle.jz_operations.specs.declared.operation.Condition.TheVariants as condition
+use Rattle.jz_operations.specs.declared.operation.Flags.{Flags}
 use Rattle.jz_operations.specs.declared.operation.Action.{Action}
 use Rattle.jz_operations.specs.declared.operation.Action.TheVariants as action
 use Rattle.jz_operations.specs.declared.operation.Operation.{Operation}
+use Rattle.jz_operations.specs.Rows.{flags_of}
 use Rattle.jz_operations.specs.Reading.{seen_of}
 use Rattle.jz_encodable.specs.Encodable.{IsEncodable, CanEncode}
 use Rattle.jz_encodable.proofs.Spelling.{encodable}
-use Rattle.jz_placing.specs.Variables.{Asked, always, asks, Body, test_of}
+use Rattle.jz_placing.specs.Variables.{Asked, always, asks, Body, test_seen, test_of}
 use Rattle.jz_placing.specs.Flow.{asked_op, flow, then_ops}
 use Rattle.jz_change.specs.Changes.{Change}
 use Rattle.jz_change.specs.declared.change.Numbers.{Numbers}
@@ -46,12 +52,18 @@ use Rattle.jz_codable.specs.Ready.{TestEncodable, HasForm, AreEncodable, IsShort
 use Rattle.jz_homes.specs.Homes.{Homes}
 use Rattle.jz_homes.specs.Operands.{Leaks}
 use Rattle.jz_row_operations.specs.Codes.{no_flag, plain, lasting}
-use Rattle.jz_row_operations.specs.Lowering.{IsCompared, compares, denies, Lowers, sets, sets_if, LowersTest, tests, LowersLoopTest, tests_each, never_false, lowering}
-use Rattle.jz_row_operations.specs.Bodies.{without_marks}
+use Rattle.jz_row_operations.specs.Lowering.{IsCompared, compares, denies, Lowers, sets, sets_if, LowersTest, tests, LowersLoopTest, tests_each, never_false}
+use Rattle.jz_flag_rows.specs.Results.{begins_at, carry_alone}
+use Rattle.jz_flag_rows.specs.Wide.{quotient_code}
+use Rattle.jz_flag_rows.specs.Conditions.{IsCondition, by_comparison as with_comparison, by_flag as with_flag, LowersFlagTest, asks_flag}
+use Rattle.jz_flag_rows.specs.Rows.{LowersFlags, carry_results, wide_products, quotients, choices, instructions, sets as sets_byte}
+use Rattle.jz_every_row.specs.Statements.{Makes, by_row, by_flags, MakesTest, by_comparison, by_flag, MakesLoopTest, by_loop_test, by_loop_flag}
+use Rattle.jz_every_row.specs.Bodies.{lowering, without_marks}
 use Rattle.jz_lowered.specs.Functions.{AreKinds, ArePassed, none_passed, one_passed, IsLoweredFun}
 use Rattle.jz_lowered.specs.Laws.{AreFormed}
-use Rattle.jz_lowered.proofs.Sorted.{bodies_sorted}
-use Rattle.jz_lowered.proofs.Within.{IsWithinOne, alu_within, cmov_within, arg_named, row_within}
+use Rattle.jz_lowered.proofs.SortedBodies.{bodies_sorted}
+use Rattle.jz_lowered.proofs.Within.{IsNamed, ArePinned, none_pinned, IsWithinOne, below_with, alu_within, cmov_within, set_within, arg_named, dest_named, row_within}
+use Rattle.jz_lowered.proofs.FlagWithin.{word_under, carry_under, condition_under, quotient_within, wide_code_within, instruction_within}
 
 -- ---- operations that can be encoded, whose variables have kinds
 pub record IsCoded (n : ℕ) (o : Operation) : Type 0 where
@@ -66,7 +78,7 @@ module _ (n : ℕ) where
   abbrev TestCoded : Asked → Type 0
   TestCoded always = ⊤
   TestCoded (asks (Some o) k) = IsCoded n o
-  TestCoded (asks None k) = ⊥
+  TestCoded (asks None k) = Below n (test_seen None k)
 
   -- and a `while` that is written without a body has none
   abbrev BodyCoded : Body → Type 0
@@ -78,14 +90,17 @@ module _ (n : ℕ) where
   BodyCoded (each f b r) = absurd f
   BodyCoded (call c b r) = absurd c
 
-  one_coded : (here : Span) (a : Action) → IsWithinOne n a → CanEncode a → IsCoded n (plain here a)
-  one_coded here a w can = record { below = w here; encodes = encodable (plain here a) can }
+  coded_with : (here : Span) (a : Action) (fl : Flags) → ArePinned n (flags_of fl) → IsWithinOne n a → CanEncode a → IsCoded n (record { span = here; action = a; flags = fl })
+  coded_with here a fl f w can = record { below = below_with n here a fl f w; encodes = encodable (record { span = here; action = a; flags = fl }) can }
 
-  all_coded : (here : Span) (acts : List Action) → All (IsWithinOne n) acts → All CanEncode acts → AreCoded (lasting here no_flag acts)
-  all_coded here [] w can = tt
-  all_coded here (a ∷ []) w can = (one_coded here a (All-head (IsWithinOne n) a [] w) (All-head CanEncode a [] can), tt)
-  all_coded here (a ∷ b ∷ more) w can =
-      (one_coded here a (All-head (IsWithinOne n) a (b ∷ more) w) (All-head CanEncode a (b ∷ more) can), all_coded here (b ∷ more) (All-tail (IsWithinOne n) a (b ∷ more) w) (All-tail CanEncode a (b ∷ more) can))
+  one_coded : (here : Span) (a : Action) → IsWithinOne n a → CanEncode a → IsCoded n (plain here a)
+  one_coded here a w can = coded_with here a no_flag (none_pinned n) w can
+
+  all_coded : (here : Span) (fl : Flags) (acts : List Action) → ArePinned n (flags_of fl) → All (IsWithinOne n) acts → All CanEncode acts → AreCoded (lasting here fl acts)
+  all_coded here fl [] f w can = tt
+  all_coded here fl (a ∷ []) f w can = (coded_with here a fl f (All-head (IsWithinOne n) a [] w) (All-head CanEncode a [] can), tt)
+  all_coded here fl (a ∷ b ∷ more) f w can =
+      (one_coded here a (All-head (IsWithinOne n) a (b ∷ more) w) (All-head CanEncode a (b ∷ more) can), all_coded here fl (b ∷ more) f (All-tail (IsWithinOne n) a (b ∷ more) w) (All-tail CanEncode a (b ∷ more) can))
 
   turn_coded : (os : List Operation) (u : Body) → AreCoded os → BodyCoded (without_marks u) → BodyCoded (without_marks (in_turn os u))
   turn_coded [] u h k = k
@@ -115,12 +130,12 @@ module _ (n : ℕ) where
   asked_below : (c : Asked) → TestCoded c → Below n (asked_op (test_of c))
   asked_below always h = none_below
   asked_below (asks (Some o) k) h = h.below
-  asked_below (asks None k) h = absurd h
+  asked_below (asks None k) h = h
 
   test_below : (c : Asked) → TestCoded c → TestBelow n (test_of c)
   test_below always h = tt
   test_below (asks (Some o) k) h = h.below
-  test_below (asks None k) h = absurd h
+  test_below (asks None k) h = h
 
   flow_below : (u : Body) (rest : ir.Tree) → BodyCoded u → TreeBelow n rest → TreeBelow n (flow seen_of test_of u rest)
   flow_below done rest h k = k
@@ -185,16 +200,48 @@ module _ (home : Homes) (kinds : List Kind) (are : AreKinds home kinds) where
   compared_coded (denies there h) = compared_coded h
 
   lowers_coded : (o : statements.Operation) (os : List Operation) (items : List Numbers) → Lowers home o os items → AreCoded top os
-  lowers_coded o os items (sets {acts = acts} {at = here} whole size row can) = all_coded top here acts (row_within home kinds are row) can
+  lowers_coded o os items (sets {acts = acts} {at = here} whole size row can) = all_coded top here no_flag acts (none_pinned top) (row_within home kinds are row) can
   lowers_coded o os items (sets_if {x} {y = y} {c = c} {m = m} {at = here} z wide kind' h ie ni cmp can) =
-      (compared_coded cmp, (one_coded top here (action.Cmov (condition.Cc c) z m y) (cmov_within top c z m y (are.words (key_of (ref_of x)) m z h).0 (arg_named home kinds are ie)) can, tt))
+      (compared_coded cmp, (one_coded top here (action.Cmov (condition.Cc c) z m y) (cmov_within top (condition.Cc c) z m y (All-nil (λ v. v < top)) (are.words (key_of (ref_of x)) m z h).0 (arg_named home kinds are ie)) can, tt))
 
-  test_coded : (t : Condition) (a : Asked) (i : Numbers) → LowersTest home t a i → TestCoded top a
+  -- ---- by the table of flags
+  set_coded : (here : Span) (compare : Option Operation) (e : Expr) (c : Condition) (ps : List (Leaks × Leaks)) (b : Arg) → IsCondition home here e compare c ps → IsNamed top b → CanEncode (action.Set c b) → AreCoded top (option_to_list compare ++ (plain here (action.Set c b) ∷ []))
+  set_coded here compare e c ps b (with_comparison h) k can = (compared_coded h, (one_coded top here (action.Set c b) (set_within top c b (All-nil (λ v. v < top)) k) can, tt))
+  set_coded here compare e c ps b (with_flag h) k can = (one_coded top here (action.Set c b) (set_within top c b (condition_under home kinds are h) k) can, tt)
+
+  flags_coded : (o : statements.Operation) (os : List Operation) (items : List Numbers) → LowersFlags home o os items → AreCoded top os
+  flags_coded o os items (carry_results {k} {acts} {at = here} whole layer size flag row can) = all_coded top here (carry_alone k) acts (carry_under home kinds are flag) (row_within home kinds are row) can
+  flags_coded o os items (wide_products {z} {hk} {lk} {x} {y} {acts} {at = here} there whole size long hp lp ia ib ni code can) =
+      all_coded top here no_flag acts (none_pinned top) (wide_code_within home kinds are z hk lk x y acts (word_under home kinds are hp) (word_under home kinds are lp) (arg_named home kinds are ia) (arg_named home kinds are ib) code) can
+  flags_coded o os items (quotients {o = u} {w} {z} {k} {x} {y} {at = here} there whole div size long pin ia ib ni apart can) =
+      all_coded top here no_flag (quotient_code u w z k x y) (none_pinned top) (quotient_within home kinds are u w z k x y (word_under home kinds are pin) (arg_named home kinds are ia) (arg_named home kinds are ib)) can
+  flags_coded o os items (choices {v} {y} {n} {m} {d} {at = here} z wide kz h ie ni flag can) =
+      (one_coded top here (action.Cmov (condition.Flag n d) z m y) (cmov_within top (condition.Flag n d) z m y (condition_under home kinds are flag) (are.words (key_of (ref_of v)) m z h).0 (arg_named home kinds are ie)) can, tt)
+  flags_coded o os items (instructions {to} {fl} {acts} {at = here} text size row can) = let r = instruction_within home kinds are row in all_coded top (begins_at to here) fl acts r.flags r.actions can
+  flags_coded o os items (sets_byte {d} {e} {b} {compare} {c} {ps} text is_set id cond can) = set_coded (left_span d) compare e c ps b cond (dest_named home kinds are id) can
+
+  made_coded : (o : statements.Operation) (os : List Operation) (items : List Numbers) → Makes home o os items → AreCoded top os
+  made_coded o os items (by_row h) = lowers_coded o os items h
+  made_coded o os items (by_flags h) = flags_coded o os items h
+
+  -- ---- tests
+  test_coded : (t : statements.Condition) (a : Asked) (i : Numbers) → LowersTest home t a i → TestCoded top a
   test_coded t a i (tests h) = compared_coded h
 
-  loop_test_coded : (t : Condition) (a : Asked) (i : Numbers) → LowersLoopTest home t a i → TestCoded top a
+  loop_test_coded : (t : statements.Condition) (a : Asked) (i : Numbers) → LowersLoopTest home t a i → TestCoded top a
   loop_test_coded t a i (tests_each h) = test_coded t a i h
   loop_test_coded t a i (never_false here e) = tt
+
+  flag_test_coded : (t : statements.Condition) (a : Asked) (i : Numbers) → LowersFlagTest home t a i → TestCoded top a
+  flag_test_coded t a i (asks_flag h) = record { reads = condition_under home kinds are h; writes = All-nil (λ v. v < top); needs = All-nil (λ (k : Need). k.variable < top) }
+
+  made_test_coded : (t : statements.Condition) (a : Asked) (i : Numbers) → MakesTest home t a i → TestCoded top a
+  made_test_coded t a i (by_comparison h) = test_coded t a i h
+  made_test_coded t a i (by_flag h) = flag_test_coded t a i h
+
+  made_loop_test_coded : (t : statements.Condition) (a : Asked) (i : Numbers) → MakesLoopTest home t a i → TestCoded top a
+  made_loop_test_coded t a i (by_loop_test h) = loop_test_coded t a i h
+  made_loop_test_coded t a i (by_loop_flag h) = flag_test_coded t a i h
 
   form_kept : (q : Bool) {e e1 : ⊤} {b : Block} {u : Body} {k : Change} → HasForm q b → Unrolls (lowering home) b e done u e1 k → HasForm q (without_marks u)
   form_kept false f h = tt
@@ -209,13 +256,13 @@ module _ (home : Homes) (kinds : List Kind) (are : AreKinds home kinds) where
 
   bodies_coded : {e e1 : ⊤} {b : Block} {rest u : Body} {k : Change} → Unrolls (lowering home) b e rest u e1 k → AreFormed b → BodyCoded top (without_marks rest) → BodyCoded top (without_marks u)
   bodies_coded u_done f h = h
-  bodies_coded (u_op {u = u} {os = os} l r) f h = turn_coded top os u (lowers_coded _ os _ l) (bodies_coded r f h)
+  bodies_coded (u_op {u = u} {os = os} l r) f h = turn_coded top os u (made_coded _ os _ l) (bodies_coded r f h)
   bodies_coded (u_quiet l r) f h = bodies_coded r f h
   bodies_coded (u_if {p = p} {u = u} {a2 = a2} {b2 = b2} {os = os} {p2 = p2} {i = i} l x y ea eb r) f h =
-      no_turn_coded top os (choose p2 a2 b2 u) l.0 (test_coded p p2 i l.2, bodies_coded x f.0 tt, bodies_coded y f.1 tt, bodies_coded r f.2 h)
+      no_turn_coded top os (choose p2 a2 b2 u) l.0 (made_test_coded p p2 i l.2, bodies_coded x f.0 tt, bodies_coded y f.1 tt, bodies_coded r f.2 h)
   bodies_coded (u_arm c x r) f h = absurd c
   bodies_coded (u_while {h = q0} {p = p} {os = os} {p2 = p2} {i = i} e0 l q b eb e3 r) f h =
-      (bodies_coded q f.0 (no_turn_coded top os done l.0 tt), loop_test_coded p p2 i l.2, form_kept q0 f.1 b, bodies_coded b f.2 tt, bodies_coded r f.3 h)
+      (bodies_coded q f.0 (no_turn_coded top os done l.0 tt), made_loop_test_coded p p2 i l.2, form_kept q0 f.1 b, bodies_coded b f.2 tt, bodies_coded r f.3 h)
   bodies_coded (u_once q c r) f h = absurd c
   bodies_coded (u_for v e r) f h = absurd v
 

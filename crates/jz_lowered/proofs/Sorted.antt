@@ -14,8 +14,7 @@ use Rattle.jz_tree.specs.declared.expr.BinOp.{BinOp}
 use Rattle.jz_tree.specs.declared.expr.BinOp.TheVariants as o
 use Rattle.jz_tree.specs.declared.expr.Expr.{Expr}
 use Rattle.jz_tree.specs.declared.stmt.Lval.{Lval}
-use Rattle.jz_runs.specs.Trees.{done, choose}
-use Rattle.jz_meaning.specs.Statements.{Condition, Block}
+use Rattle.jz_meaning.specs.Statements.{Condition}
 use Rattle.jz_meaning.specs.Statements as statements
 use Rattle.jz_meaning.specs.States.{Key}
 use Rattle.jz_meaning.specs.Values.{key_of, ref_of}
@@ -26,6 +25,7 @@ use Rattle.jz_ir.specs.Paths.{among}
 use Rattle.jz_operations.specs.declared.operation.Pinned.{Pinned}
 use Rattle.jz_operations.specs.declared.operation.Arg.{Arg}
 use Rattle.jz_operations.specs.declared.operation.Arg.TheVariants as arg
+use Rattle.jz_operations.specs.declared.operation.Condition.{Condition as Choice}
 use Rattle.jz_operations.specs.declared.operation.Condition.TheVariants as condition
 use Rattle.jz_operations.specs.declared.operation.Action.{Action}
 use Rattle.jz_operations.specs.declared.operation.Action.TheVariants as action
@@ -34,20 +34,16 @@ use Rattle.jz_operations.specs.Rows.{Output, outputs, changes, flags_of}
 use Rattle.jz_operations.specs.Reading.{written_in, left_in, five_flags, flag_left, flags_left, fixed_of}
 use Rattle.jz_operations.proofs.Somes.{same_some}
 use Rattle.jz_encodable.specs.Encodable.{CanEncode}
-use Rattle.jz_placing.specs.Variables.{Asked, Body}
+use Rattle.jz_placing.specs.Variables.{Asked}
 use Rattle.jz_placing.specs.Placing.{Asks}
-use Rattle.jz_change.specs.Changes.{Change}
 use Rattle.jz_change.specs.declared.change.Numbers.{Numbers}
-use Rattle.jz_pass.specs.Operations.{in_turn}
-use Rattle.jz_pass.specs.Unrolling.{Unrolls, u_done, u_op, u_quiet, u_if, u_arm, u_while, u_once, u_for}
-use Rattle.jz_place.specs.Sorts.{IsSorted, TestSorted, AreSorted}
+use Rattle.jz_place.specs.Sorts.{IsSorted, TestSorted}
 use Rattle.jz_homes.specs.Homes.{Homes, in_register}
 use Rattle.jz_homes.specs.Operands.{Leaks, IsDest, to_word, to_scalar, to_cell, to_memory}
 use Rattle.jz_row_operations.specs.Codes.{no_flag, plain, lasting}
 use Rattle.jz_row_operations.specs.Rows.{IsSumOp, alu_of, commutes, IsCarryOp, carry_alu, shift_of}
 use Rattle.jz_row_operations.specs.Table.{same_arg, is_imm, is_free, brought, behind, nothing}
-use Rattle.jz_row_operations.specs.Lowering.{HasRow, moves, sums, carries, signs, times, times_by, shifts, shifts_by, extends, lowest, IsCompared, compares, denies, Lowers, sets, sets_if, LowersTest, tests, LowersLoopTest, tests_each, never_false, lowering}
-use Rattle.jz_row_operations.specs.Bodies.{without_marks}
+use Rattle.jz_row_operations.specs.Lowering.{HasRow, moves, sums, carries, signs, times, times_by, shifts, shifts_by, extends, lowest, IsCompared, compares, denies, Lowers, sets, sets_if, LowersTest, tests, LowersLoopTest, tests_each, never_false}
 use Rattle.jz_lowered.specs.Functions.{AreKinds}
 use Rattle.jz_lowered.proofs.Accesses.{one_operand, accessed_once}
 
@@ -62,7 +58,7 @@ no_flag_there None false f rest e = e
 no_flag_there (Some p) true f rest e = e
 no_flag_there (Some p) false f rest e = e
 
-no_flags_there : (ps : List (Option Pinned)) (cs : List Bool) (fs : List Flag) → has_place (flags_left ps cs fs) 20 ≡ false
+pub no_flags_there : (ps : List (Option Pinned)) (cs : List Bool) (fs : List Flag) → has_place (flags_left ps cs fs) 20 ≡ false
 no_flags_there [] cs fs = refl
 no_flags_there (p ∷ ps) [] fs = refl
 no_flags_there (p ∷ ps) (c ∷ cs) [] = refl
@@ -90,7 +86,7 @@ module _ (home : Homes) (kinds : List Kind) (are : AreKinds home kinds) where
   abbrev pub AreWords : List Output → Type 0
   AreWords os = (v : ℕ) → IsTrue (among (written_in os) v) → (v < length kinds) × (slice_index_or kinds v Word ≡ Word)
 
-  one_by : (b : Bool) (n v : ℕ) → nat_eq n v ≡ b → IsTrue (among (n ∷ []) v) → n ≡ v
+  pub one_by : (b : Bool) (n v : ℕ) → nat_eq n v ≡ b → IsTrue (among (n ∷ []) v) → n ≡ v
   one_by true n v e h = eqb-true n v e
   one_by false n v e h = absurd (let k : false ≡ true = sym (rw e refl) ∙ h in cc)
 
@@ -99,7 +95,7 @@ module _ (home : Homes) (kinds : List Kind) (are : AreKinds home kinds) where
     pub words : AreWords ((z, b) ∷ [])
     pub left : left_in ((z, b) ∷ []) ≡ []
 
-  written : {z : Size} {d : Lval} {b : Arg} {r : Leaks} → IsDest home z d b r → IsWritten z b
+  pub written : {z : Size} {d : Lval} {b : Arg} {r : Leaks} → IsDest home z d b r → IsWritten z b
   written {z} (to_word x n kind' h) = record {
     words = λ v t. let e = one_by (nat_eq n v) n v refl t in subst (λ m. (m < length kinds) × (slice_index_or kinds m Word ≡ Word)) e (are.words _ n z h);
     left = refl;
@@ -136,7 +132,7 @@ module _ (home : Homes) (kinds : List Kind) (are : AreKinds home kinds) where
   brought_sorted : (swaps : Bool) (f : Arg → Action) (at : Span) (z : Size) (b x y : Arg) (acts : List Action) → ((u : Arg) → outputs (f u) ≡ (z, b) ∷ []) → IsWritten z b → behind f (brought swaps z b x y) ≡ Some acts → All CanEncode acts → AllSorted (lasting at no_flag acts)
   brought_sorted swaps f at z b x y acts o w e once = way_sorted (same_arg b x) (swaps && same_arg b y) (is_free b y) f at z b x y acts o w e once
 
-  row_sorted : {z : Size} {d : Lval} {e : Expr} {acts : List Action} {items : List Numbers} (at : Span) → HasRow home z d e acts items → All CanEncode acts → AllSorted (lasting at no_flag acts)
+  pub row_sorted : {z : Size} {d : Lval} {e : Expr} {acts : List Action} {items : List Numbers} (at : Span) → HasRow home z d e acts items → All CanEncode acts → AllSorted (lasting at no_flag acts)
   row_sorted {z} at (moves {x = x} {b = b} ia id) once = last_sorted at (action.Mov z b x) z b refl (written id) once
   row_sorted {z} at (sums {o} {x = x} {y = y} {b = b} {acts = acts} there h ia ic id nn e) once = brought_sorted (commutes o) (λ u. action.Alu (alu_of o) z b u None) at z b x y acts (λ u. sum_outputs o z b u None h) (written id) e once
   row_sorted {z} at (carries {o} {x = x} {y = y} {b = b} {acts = acts} f c inner there h ia ic id nn isf span e) once = brought_sorted (commutes o) (λ u. action.Alu (carry_alu o) z b u (Some c)) at z b x y acts (λ u. carry_outputs o z b u (Some c) h) (written id) e once
@@ -149,7 +145,7 @@ module _ (home : Homes) (kinds : List Kind) (are : AreKinds home kinds) where
   row_sorted {z} at (lowest {m = m} {n = n} there own le ia id) once = last_sorted at (action.Mov z (arg.Var m) (arg.Var n)) z (arg.Var m) refl (written id) once
 
   -- ---- comparisons write nothing
-  compared_sorted : {at : Span} {e : Expr} {o : Operation} {c : Cond} {p q : Leaks} → IsCompared home at e o c p q → IsSorted kinds o
+  pub compared_sorted : {at : Span} {e : Expr} {o : Operation} {c : Cond} {p q : Leaks} → IsCompared home at e o c p q → IsSorted kinds o
   compared_sorted {at} (compares {z = z} {x = x} {y = y} here is size ia ib ni once) = record {
     words = λ v h. absurd (let k : false ≡ true = h in cc);
     stack = nothing_left at (action.Alu alu.Cmp z x y None) refl;
@@ -157,41 +153,21 @@ module _ (home : Homes) (kinds : List Kind) (are : AreKinds home kinds) where
   }
   compared_sorted (denies here h) = compared_sorted h
 
-  moved_sorted : (at : Span) (c : Cond) (z : Size) (m : ℕ) (y : Arg) (k : Key) → home k ≡ Some (in_register m z) → IsSorted kinds (plain at (action.Cmov (condition.Cc c) z m y))
+  pub moved_sorted : (at : Span) (c : Choice) (z : Size) (m : ℕ) (y : Arg) (k : Key) → home k ≡ Some (in_register m z) → IsSorted kinds (plain at (action.Cmov c z m y))
   moved_sorted at c z m y k h = record {
     words = λ v t. let e = one_by (nat_eq m v) m v refl t in subst (λ n. (n < length kinds) × (slice_index_or kinds n Word ≡ Word)) e (are.words k m z h);
-    stack = nothing_left at (action.Cmov (condition.Cc c) z m y) refl;
+    stack = nothing_left at (action.Cmov c z m y) refl;
     one = one_operand z y;
   }
 
-  lowers_sorted : (o : statements.Operation) (os : List Operation) (items : List Numbers) → Lowers home o os items → AllSorted os
+  pub lowers_sorted : (o : statements.Operation) (os : List Operation) (items : List Numbers) → Lowers home o os items → AllSorted os
   lowers_sorted o os items (sets {at = at} whole size row once) = row_sorted at row once
-  lowers_sorted o os items (sets_if {x} {y = y} {c = c} {m = m} {at = at} z wide kind' h ie ni cmp can) = (compared_sorted cmp, (moved_sorted at c z m y (key_of (ref_of x)) h, tt))
+  lowers_sorted o os items (sets_if {x} {y = y} {c = c} {m = m} {at = at} z wide kind' h ie ni cmp can) = (compared_sorted cmp, (moved_sorted at (condition.Cc c) z m y (key_of (ref_of x)) h, tt))
 
   -- ---- tests
-  test_sorted : (t : Condition) (a : Asked) (i : Numbers) → LowersTest home t a i → TestSorted kinds a × Asks a
+  pub test_sorted : (t : Condition) (a : Asked) (i : Numbers) → LowersTest home t a i → TestSorted kinds a × Asks a
   test_sorted t a i (tests h) = (compared_sorted h, tt)
 
-  loop_test_sorted : (t : Condition) (a : Asked) (i : Numbers) → LowersLoopTest home t a i → TestSorted kinds a
+  pub loop_test_sorted : (t : Condition) (a : Asked) (i : Numbers) → LowersLoopTest home t a i → TestSorted kinds a
   loop_test_sorted t a i (tests_each h) = (test_sorted t a i h).0
   loop_test_sorted t a i (never_false here e) = tt
-
-  -- ---- bodies
-  turn_sorted : (os : List Operation) (u : Body) → AllSorted os → AreSorted kinds (without_marks u) → AreSorted kinds (without_marks (in_turn os u))
-  turn_sorted [] u h k = k
-  turn_sorted (o ∷ os) u h k = (h.0, turn_sorted os u h.1 k)
-
-  no_turn_sorted : (os : List Operation) (u : Body) → os ≡ [] → AreSorted kinds (without_marks u) → AreSorted kinds (without_marks (in_turn os u))
-  no_turn_sorted os u e k = subst (λ l. AreSorted kinds (without_marks (in_turn l u))) (sym e) k
-
-  pub bodies_sorted : {e e1 : ⊤} {b : Block} {rest u : Body} {k : Change} → Unrolls (lowering home) b e rest u e1 k → AreSorted kinds (without_marks rest) → AreSorted kinds (without_marks u)
-  bodies_sorted u_done h = h
-  bodies_sorted (u_op {u = u} {os = os} l r) h = turn_sorted os u (lowers_sorted _ os _ l) (bodies_sorted r h)
-  bodies_sorted (u_quiet l r) h = bodies_sorted r h
-  bodies_sorted (u_if {p = p} {u = u} {a2 = a2} {b2 = b2} {os = os} {p2 = p2} {i = i} l x y ea eb r) h =
-      let t = test_sorted p p2 i l.2 in
-      no_turn_sorted os (choose p2 a2 b2 u) l.0 (t.0, t.1, bodies_sorted x tt, bodies_sorted y tt, bodies_sorted r h)
-  bodies_sorted (u_arm c x r) h = absurd c
-  bodies_sorted (u_while {p = p} {os = os} {p2 = p2} {i = i} e0 l q b eb e3 r) h = (bodies_sorted q (no_turn_sorted os done l.0 tt), loop_test_sorted p p2 i l.2, bodies_sorted b tt, bodies_sorted r h)
-  bodies_sorted (u_once q c r) h = absurd c
-  bodies_sorted (u_for v e r) h = absurd v

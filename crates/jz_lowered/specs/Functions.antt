@@ -19,7 +19,7 @@ use Rattle.jz_place.specs.declared.tree.Ir.{Ir}
 use Rattle.jz_place.specs.declared.tree.Passed.{Passed}
 use Rattle.jz_place.specs.Bodies.{body_of}
 use Rattle.jz_homes.specs.Homes.{Home, Homes, in_register, in_flag}
-use Rattle.jz_row_operations.specs.Bodies.{IsLowered}
+use Rattle.jz_every_row.specs.Bodies.{IsLowered}
 
 -- ---- parameters and results
 -- each variable is passed in the next register, where the text names it

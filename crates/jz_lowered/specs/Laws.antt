@@ -24,7 +24,7 @@ use Rattle.jz_place.specs.Sorts.{AreSorted}
 use Rattle.jz_correct.specs.Registers.{argument_registers, result_registers}
 use Rattle.jz_codable.specs.Ready.{HasForm, IsShort, IsReady}
 use Rattle.jz_homes.specs.Homes.{Homes, IsHoming, IsRelated, in_register}
-use Rattle.jz_row_operations.specs.Bodies.{IsLowered}
+use Rattle.jz_every_row.specs.Bodies.{IsLowered}
 use Rattle.jz_lowered.specs.Functions.{AreKinds, entry_of, IsLoweredFun}
 
 -- a parameter is a variable of this word's size

@@ -1,6 +1,6 @@
--- Lowering refuses the expansion of an export function of a typed text at none of its statements,
--- where each of these is covered.
-use Rattle.std.specs.Prelude.{ℕ, ◌≡◌, true, Contains}
+-- Lowering refuses the expansion of an export function of a typed text at none of its statements, and
+-- for nothing but its size.
+use Rattle.std.specs.Prelude.{ℕ, ◌≡◌, ◌≤◌, ◌^◌, ◌⊎◌, length, true, Contains}
 use Rattle.jz_tree.specs.Span.{Span}
 use Rattle.jz_tree.specs.declared.program.Fun.{Fun}
 use Rattle.jz_tree.specs.declared.program.Program.{Program}
@@ -9,14 +9,26 @@ use Rattle.jz_types.specs.TypedPrograms.{IsTypedProgram}
 use Rattle.jz_texts.specs.Texts.{IsText}
 use Rattle.jz_change.specs.Changes.{Change}
 use Rattle.jz_expansion.specs.Expansions.{IsExpansion}
-use Rattle.jz_total_rows.specs.Bodies.{IsCoveredBody}
+use Rattle.jz_short.specs.Lengths.{statements_in}
 use Rattle.jz_lowering.specs.Parts.{parts_in, IsFirstWithout}
-use Rattle.jz_lowering.specs.Functions.{plain_body, homes_for}
+use Rattle.jz_lowering.specs.Functions.{plain_body, table_of, homes_for, Refuses}
 
--- covered: no quotient, no flag result and no pair of words, and each condition a comparison
 abbrev pub ExpansionsHaveCode : Type 0
 ExpansionsHaveCode =
     (p : Program) (f g : Fun) (k : Change) (count : ℕ) (at : Span)
     → IsTypedProgram p → IsText p → Contains p.funs f → is_exported f.kind ≡ true
-    → IsExpansion p f g k count → IsCoveredBody (plain_body g)
+    → IsExpansion p f g k count
     → IsFirstWithout (homes_for g) (parts_in (plain_body g)) at → ⊥
+
+-- ---- at all
+-- 2^32 words and bools in registers, 2^32 variables on the stack, or 2^24 statements
+abbrev pub IsTooLarge : Fun → Type 0
+IsTooLarge g =
+    (2 ^ 32 ≤ length (table_of g).kinds) ⊎ ((2 ^ 32 ≤ length (table_of g).stack)
+    ⊎ (2 ^ 24 ≤ statements_in (plain_body g)))
+
+abbrev pub OnlyLargeAreRefused : Type 0
+OnlyLargeAreRefused =
+    (p : Program) (f g : Fun) (k : Change) (count : ℕ) (at : Span)
+    → IsTypedProgram p → IsText p → Contains p.funs f → is_exported f.kind ≡ true
+    → IsExpansion p f g k count → Refuses g at → IsTooLarge g

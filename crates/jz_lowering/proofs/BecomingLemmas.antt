@@ -26,8 +26,8 @@ use Rattle.jz_place.specs.declared.tree.Node.TheFolds.{fold-roll-Node}
 use Rattle.jz_place.specs.Bodies.{asked_of, in_order, node_step, then_body, body_of}
 use Rattle.jz_homes.specs.Homes.{Homes}
 use Rattle.jz_row_operations.specs.Codes.{plain}
-use Rattle.jz_row_operations.specs.Lowering.{Lowers, LowersTest, LowersLoopTest, lowering}
-use Rattle.jz_row_operations.specs.Bodies.{without_marks, IsLowered}
+use Rattle.jz_every_row.specs.Statements.{Makes, MakesTest, MakesLoopTest}
+use Rattle.jz_every_row.specs.Bodies.{lowering, without_marks, IsLowered}
 use Rattle.jz_lowering.specs.Becoming.{no_callees, before_body, Becomes}
 
 -- ---- parts of a body
@@ -94,7 +94,7 @@ module _ (home : Homes) where
   all_taken ss i m a e h = subst (λ l. Becomes home (block no_callees l) m a) (take_all i ss e) h
 
   -- ---- each form
-  pub op_becomes : (o : source.Operation) (os : List Operation) (items : List Numbers) → Lowers home o os items → Becomes home (op o) (map Do os) (step.Ops items ∷ [])
+  pub op_becomes : (o : source.Operation) (os : List Operation) (items : List Numbers) → Makes home o os items → Becomes home (op o) (map Do os) (step.Ops items ∷ [])
   op_becomes o os items rule = λ t v k h. record {
     marked = in_turn os h.marked;
     made = subst (λ x. Unrolls (lowering home) (op o t) tt done (in_turn os h.marked) tt x) (sym (then_ops items k)) (u_op {os = os} {is = items} rule h.made);
@@ -112,7 +112,7 @@ module _ (home : Homes) where
   pub alone : (f : Block → Block) (m : List Node) (a : List Step) → Becomes home f m a → IsLowered home (f done) (body_of m) (change_of (record { steps = a }))
   alone f m a h = at_trees refl (body_before m) (change_is (record { steps = a })) (h done done model.ends (record { marked = done; made = u_done; body = refl }))
 
-  pub if_becomes : (p : Condition) (t : Test) (i : Numbers) (f g : Block → Block) (m n : List Node) (a b : List Step) → LowersTest home p (asked_of t) i → Becomes home f m a → Becomes home g n b
+  pub if_becomes : (p : Condition) (t : Test) (i : Numbers) (f g : Block → Block) (m n : List Node) (a b : List Step) → MakesTest home p (asked_of t) i → Becomes home f m a → Becomes home g n b
       → Becomes home (choose p (f done) (g done)) (If t m n ∷ []) (step.If [] i (record { steps = a }) (record { steps = b }) ∷ [])
   if_becomes p t i f g m n a b test hf hg = λ r v k h.
       let x = alone f m a hf in
@@ -127,7 +127,7 @@ module _ (home : Homes) where
             ∙ ap (λ z. choose (asked_of t) (without_marks x.marked) (without_marks y.marked) z) h.body;
       }
 
-  pub while_becomes : (bare : Bool) (p : Condition) (t : Test) (i : Numbers) (f g : Block → Block) (m n : List Node) (a b : List Step) → LowersLoopTest home p (asked_of t) i → Becomes home f m a → Becomes home g n b
+  pub while_becomes : (bare : Bool) (p : Condition) (t : Test) (i : Numbers) (f g : Block → Block) (m n : List Node) (a b : List Step) → MakesLoopTest home p (asked_of t) i → Becomes home f m a → Becomes home g n b
       → Becomes home (loop bare (f done) p (g done)) (While bare m t n ∷ []) (step.While (record { steps = a }) [] i (record { steps = b }) ∷ [])
   while_becomes bare p t i f g m n a b test hf hg = λ r v k h.
       let x = alone f m a hf in

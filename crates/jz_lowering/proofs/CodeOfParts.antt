@@ -4,18 +4,16 @@ use Rattle.std.specs.Prelude.{All, ⊤}
 use Rattle.std.proofs.lemmas.List.Elements.{All-nil, All-cons, All-append, All-head, All-tail}
 use Rattle.jz_tree.specs.Span.{Span}
 use Rattle.jz_runs.specs.Trees.{done, op, quiet, choose, loop, each, call}
-use Rattle.jz_meaning.specs.Statements as source
-use Rattle.jz_meaning.specs.Statements.{Block, assign}
+use Rattle.jz_meaning.specs.Statements.{Block}
 use Rattle.jz_operations.specs.Rows.{Frame}
 use Rattle.jz_placing.specs.Variables.{Body}
 use Rattle.jz_change.specs.Changes.{Change}
 use Rattle.jz_pass.specs.Unrolling.{Unrolls, u_done, u_op, u_quiet, u_if, u_arm, u_while, u_once, u_for}
 use Rattle.jz_homes.specs.Homes.{Homes, IsHoming}
-use Rattle.jz_row_operations.specs.Lowering.{lowering}
-use Rattle.jz_row_operations.specs.Bodies.{IsLowered}
-use Rattle.jz_total_rows.specs.Laws.{HasOperations}
-use Rattle.jz_total_rows.specs.Bodies.{IsReadyOperation, IsReadyBody, IsCoveredOperation, IsCoveredBody, HasPattern, HavePatterns}
-use Rattle.jz_total_rows.proofs.Whole.{assignments, tests_there, loop_tests_there}
+use Rattle.jz_every_row.specs.Bodies.{lowering, IsLowered}
+use Rattle.jz_total_flags.specs.Bodies.{IsReadyBody, HavePatterns}
+use Rattle.jz_total_flags.proofs.Tests.{tests_there, loop_tests_there}
+use Rattle.jz_total_flags.proofs.Whole.{operations_there}
 use Rattle.jz_lowering.specs.Parts.{Part, does, asks, asks_each, parts_in, HasCode, IsFirstWithout}
 
 module _ (home : Homes) where
@@ -42,21 +40,17 @@ module _ (home : Homes) where
   pub lowered_code : (b : Block) (u : Body) (k : Change) → IsLowered home b u k → AllCode (parts_in b)
   lowered_code b u k h = body_code h.made
 
+  -- ---- what is ready
   module _ (frame : Frame) (homing : IsHoming frame home) where
-    operation_there : (o : source.Operation) → IsReadyOperation home o → HasPattern o → IsCoveredOperation o → HasOperations home o
-    operation_there (assign (d ∷ []) o e c at) r p h = assignments frame home d o e c at homing r (record { row = p.0; selected = p.1; other = h.0; compared = h.1 })
-    operation_there o r p h = absurd h
-
-    -- ---- what is ready and covered
-    pub covered_code : (b : Block) → IsReadyBody home b → HavePatterns b → IsCoveredBody b → AllCode (parts_in b)
-    covered_code done r p h = All-nil (HasCode home)
-    covered_code (op o b) r p h = one_before (does o) (parts_in b) (operation_there o r.0 p.0 h.0) (covered_code b r.1 p.1 h.1)
-    covered_code (quiet o b) r p h = covered_code b r p h
-    covered_code (choose c a b t) r p h = one_before (asks c) _ (tests_there home c r.0 h.0) (three (parts_in a) (parts_in b) (parts_in t) (covered_code a r.1 p.0 h.1) (covered_code b r.2 p.1 h.2) (covered_code t r.3 p.2 h.3))
-    covered_code (loop q before c b t) r p h =
-        one_before (asks_each c) _ (loop_tests_there home c r.0 h.0) (three (parts_in before) (parts_in b) (parts_in t) (covered_code before r.1 p.0 h.1) (covered_code b r.2 p.1 h.2) (covered_code t r.3 p.2 h.3))
-    covered_code (each f b t) r p h = absurd h
-    covered_code (call c b t) r p h = absurd h
+    pub ready_code : (b : Block) → IsReadyBody home b → HavePatterns b → AllCode (parts_in b)
+    ready_code done r p = All-nil (HasCode home)
+    ready_code (op o b) r p = one_before (does o) (parts_in b) (operations_there frame home o homing r.0 p.0) (ready_code b r.1 p.1)
+    ready_code (quiet o b) r p = ready_code b r p
+    ready_code (choose c a b t) r p = one_before (asks c) _ (tests_there home c r.0) (three (parts_in a) (parts_in b) (parts_in t) (ready_code a r.1 p.0) (ready_code b r.2 p.1) (ready_code t r.3 p.2))
+    ready_code (loop q before c b t) r p =
+        one_before (asks_each c) _ (loop_tests_there home c r.0) (three (parts_in before) (parts_in b) (parts_in t) (ready_code before r.1 p.0) (ready_code b r.2 p.1) (ready_code t r.3 p.2))
+    ready_code (each f b t) r p = absurd r
+    ready_code (call c b t) r p = absurd r
 
   -- ---- either all have operations, or one has none
   in_front : (xs : List Part) (p : Part) (ys : List Part) → AllCode (xs ++ (p ∷ ys)) → HasCode home p

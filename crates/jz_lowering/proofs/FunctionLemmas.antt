@@ -14,27 +14,26 @@ use Rattle.jz_place.specs.declared.tree.Passed.{Passed}
 use Rattle.jz_place.specs.Bodies.{body_of}
 use Rattle.jz_codable.specs.Ready.{parts_of, IsShort}
 use Rattle.jz_homes.specs.Homes.{IsHoming}
-use Rattle.jz_row_operations.specs.Bodies.{IsLowered}
-use Rattle.jz_row_operations.proofs.Bodies.{bodies_carry, bodies_have_cases}
+use Rattle.jz_every_row.specs.Bodies.{IsLowered}
+use Rattle.jz_every_row.proofs.Bodies.{bodies_carry, bodies_have_cases}
 use Rattle.jz_lowered.specs.Functions.{ArePassed, AreKinds}
 use Rattle.jz_lowered.proofs.Coded.{functions_ready}
 use Rattle.jz_short.specs.Lengths.{statements_in}
-use Rattle.jz_short.proofs.Twice.{twice}
+use Rattle.jz_short.proofs.Thrice.{thrice}
 use Rattle.jz_operands.specs.TableHomes.{homes_by, homes_of}
 use Rattle.jz_homing.specs.declared.homing.Homing.{Homing}
 use Rattle.jz_homing.specs.Tables.{Table, table_in, no_homes, frame_of}
 use Rattle.jz_homing.proofs.EntryLemmas.{none_entered, all_entered}
 use Rattle.jz_homing.proofs.HomingLemmas.{table_is_homing, table_has_kinds}
-use Rattle.jz_total_rows.proofs.Made.{lowered_covered}
 use Rattle.jz_lowering.specs.declared.functions.LoweredFun.{LoweredFun}
 use Rattle.jz_lowering.specs.declared.parts.Lowered.{Lowered}
 use Rattle.jz_lowering.specs.Becoming.{no_callees, Becomes}
 use Rattle.jz_lowering.proofs.BecomingLemmas.{alone}
-use Rattle.jz_lowering.proofs.CodeOfParts.{covered_code, lowered_code, never_both}
+use Rattle.jz_lowering.proofs.CodeOfParts.{ready_code, lowered_code, never_both}
 use Rattle.jz_lowering.proofs.FormLemmas.{plain_formed}
 use Rattle.jz_lowering.specs.Parts.{parts_in}
-use Rattle.jz_lowering.specs.Laws.{CoveredFunctionsHaveCode, LoweredFunctionsHaveCode}
-use Rattle.jz_lowering.specs.Functions.{plain_body, table_of, homes_for, all_places, IsFunctionLowered, KeepsRuns, KeepsCases, IsReadyFun, OnlyCovered}
+use Rattle.jz_lowering.specs.Laws.{ReadyFunctionsHaveCode, LoweredFunctionsHaveCode}
+use Rattle.jz_lowering.specs.Functions.{plain_body, table_of, homes_for, all_places, IsFunctionLowered, KeepsRuns, KeepsCases, IsReadyFun}
 
 homing_for : (f : Fun) → IsHoming (frame_of (table_of f).stack) (homes_for f)
 homing_for f = table_is_homing (table_of f) (all_entered no_homes (variables_of f) none_entered)
@@ -43,8 +42,8 @@ kinds_for : (f : Fun) → AreKinds (homes_for f) (table_of f).kinds
 kinds_for f = table_has_kinds (table_of f) (all_entered no_homes (variables_of f) none_entered)
 
 pub keeps_runs : (f : Fun) (l : LoweredFun) (k : Change) → IsFunctionLowered f l k → KeepsRuns f l k
-keeps_runs f l k h =
-    bodies_carry (frame_of l.stack) (homes_for f) (subst (λ s. IsHoming (frame_of s) (homes_for f)) (sym h.stack) (homing_for f)) (plain_body f) (body_of l.ir.body) k h.lowered.body
+keeps_runs f l k h places met =
+    bodies_carry places (frame_of l.stack) (homes_for f) (subst (λ s. IsHoming (frame_of s) (homes_for f)) (sym h.stack) (homing_for f)) (plain_body f) (body_of l.ir.body) k h.lowered.body met
 
 pub keeps_cases : (f : Fun) (l : LoweredFun) (k : Change) → IsFunctionLowered f l k → KeepsCases f l k
 keeps_cases f l k h = bodies_have_cases (homes_for f) (plain_body f) (body_of l.ir.body) k h.lowered.body
@@ -52,27 +51,24 @@ keeps_cases f l k h = bodies_have_cases (homes_for f) (plain_body f) (body_of l.
 pub is_ready : (f : Fun) (l : LoweredFun) (k : Change) → IsFunctionLowered f l k → IsShort l.ir → IsReadyFun l
 is_ready f l k h short = functions_ready (homes_for f) f (plain_body f) l.ir k h.lowered (plain_formed f) short
 
-pub is_covered : (f : Fun) (l : LoweredFun) (k : Change) → IsFunctionLowered f l k → OnlyCovered f
-is_covered f l k h = lowered_covered (homes_for f) (plain_body f) (body_of l.ir.body) k h.lowered.body
-
-at_most_long : (a b : ℕ) → a ≤ 2 * b → b < 2 ^ 25 → a < 2 ^ 26
+at_most_long : (a b : ℕ) → a ≤ 3 * b → b < 2 ^ 24 → a < 2 ^ 26
 at_most_long a b e f = omega (arith, e, f)
 
 -- what is not short is long in the source too, or has many variables
-pub is_long : (f : Fun) (l : LoweredFun) (k : Change) → IsFunctionLowered f l k → (IsShort l.ir → ⊥) → (2 ^ 25 ≤ statements_in (plain_body f)) ⊎ (2 ^ 32 ≤ length (table_of f).kinds)
-is_long f l k h none = by (cases_lt (statements_in (plain_body f)) (2 ^ 25)) (cases_lt (length (table_of f).kinds) (2 ^ 32))
+pub is_long : (f : Fun) (l : LoweredFun) (k : Change) → IsFunctionLowered f l k → (IsShort l.ir → ⊥) → (2 ^ 24 ≤ statements_in (plain_body f)) ⊎ (2 ^ 32 ≤ length (table_of f).kinds)
+is_long f l k h none = by (cases_lt (statements_in (plain_body f)) (2 ^ 24)) (cases_lt (length (table_of f).kinds) (2 ^ 32))
   where
-    by : (statements_in (plain_body f) < 2 ^ 25) ⊎ (2 ^ 25 ≤ statements_in (plain_body f)) → (length (table_of f).kinds < 2 ^ 32) ⊎ (2 ^ 32 ≤ length (table_of f).kinds) → (2 ^ 25 ≤ statements_in (plain_body f)) ⊎ (2 ^ 32 ≤ length (table_of f).kinds)
+    by : (statements_in (plain_body f) < 2 ^ 24) ⊎ (2 ^ 24 ≤ statements_in (plain_body f)) → (length (table_of f).kinds < 2 ^ 32) ⊎ (2 ^ 32 ≤ length (table_of f).kinds) → (2 ^ 24 ≤ statements_in (plain_body f)) ⊎ (2 ^ 32 ≤ length (table_of f).kinds)
     by (inr few) m = inl few
     by (inl few) (inr many) = inr many
     by (inl few) (inl many) = absurd (none (record {
       count = subst (λ ks. length ks < 2 ^ 32) (sym h.kinds) many;
-      short = at_most_long (parts_of (body_of l.ir.body)) (statements_in (plain_body f)) (twice (homes_for f) (plain_body f) (body_of l.ir.body) k h.lowered.body) few;
+      short = at_most_long (parts_of (body_of l.ir.body)) (statements_in (plain_body f)) (thrice (homes_for f) (plain_body f) (body_of l.ir.body) k h.lowered.body) few;
     }))
 
-pub covered_have_code : CoveredFunctionsHaveCode
-covered_have_code f at r p h first =
-    never_both (homes_for f) (parts_in (plain_body f)) at (covered_code (homes_for f) (frame_of (table_of f).stack) (homing_for f) (plain_body f) r p h) first
+pub ready_have_code : ReadyFunctionsHaveCode
+ready_have_code f at r p first =
+    never_both (homes_for f) (parts_in (plain_body f)) at (ready_code (homes_for f) (frame_of (table_of f).stack) (homing_for f) (plain_body f) r p) first
 
 pub lowered_have_code : LoweredFunctionsHaveCode
 lowered_have_code f l k at h first = never_both (homes_for f) (parts_in (plain_body f)) at (lowered_code (homes_for f) (plain_body f) (body_of l.ir.body) k h.lowered.body) first

@@ -24,12 +24,19 @@ use Rattle.jz_homes.specs.Homes.{Homes}
 use Rattle.jz_operations.specs.declared.operation.Operation.{Operation}
 use Rattle.jz_placing.specs.Variables.{Asked}
 use Rattle.jz_change.specs.declared.change.Numbers.{Numbers}
-use Rattle.jz_row_operations.specs.Lowering.{Lowers, LowersTest, tests, LowersLoopTest, tests_each, never_false}
+use Rattle.jz_row_operations.specs.Lowering.{tests, tests_each, never_false}
 use Rattle.jz_one_row.proofs.Outs.{out_bool}
-use Rattle.jz_total_rows.specs.Laws.{HasTest, HasLoopTest}
+use Rattle.jz_flag_rows.specs.Results.{begins_at}
+use Rattle.jz_flag_rows.specs.Conditions.{asks_flag}
+use Rattle.jz_flag_rows.proofs.Apart.{no_truth}
+use Rattle.jz_every_row.specs.Statements.{Makes, by_row, by_flags, MakesTest, by_comparison, by_flag, MakesLoopTest, by_loop_test, by_loop_flag}
+use Rattle.jz_total_flags.specs.Ready.{HasOperations, HasTest, HasLoopTest}
 use Rattle.jz_rows.proofs.SettingRefusals.{truth_never}
 use Rattle.jz_rows.specs.declared.row.Row.{Row}
 use Rattle.jz_rows.specs.Rows.{items_of, operations_at, IsRowOf, NeverCompares, NeverLowers}
+use Rattle.jz_pinned_rows.specs.declared.row.PinnedRow.{PinnedRow}
+use Rattle.jz_pinned_rows.specs.Rows.{items_of as pinned_items, operations_at as pinned_at, IsPinnedRow, NeverPinned, NeverFlag}
+use Rattle.jz_instructions.specs.Rows.{IsInstructionRow, NeverInstruction}
 use Rattle.jz_lowering.specs.Becoming.{no_callees}
 use Rattle.jz_lowering.specs.Parts.{Part, does, asks, asks_each, counts, parts_in, StandsAt, an_assignment, an_instruction, a_call, HasCode, IsFirstWithout}
 use Rattle.jz_lowering.specs.InnerParts.{kind_piece}
@@ -160,42 +167,69 @@ module _ (home : Homes) where
   second_body p xs ys at h a f = later (p ∷ xs) ys [] at (All-cons (HasCode home) p xs h a) f
 
   -- ---- what has no operations at all
-  no_call : (at : Span) (os : List Operation) (is : List Numbers) → Lowers home (meaningless at) os is → ⊥
-  no_call at os is h = elim h [ ]
-
-  no_instruction : (to : List Lval) (n : List ℕ) (args : List Expr) (at : Span) (os : List Operation) (is : List Numbers) → Lowers home (instruction to n args at) os is → ⊥
-  no_instruction to n args at os is h = elim h [ ]
+  no_call : (at : Span) (os : List Operation) (is : List Numbers) → Makes home (meaningless at) os is → ⊥
+  no_call at os is (by_row h) = elim h [ ]
+  no_call at os is (by_flags h) = elim h [ ]
 
   pub call_refused : (at : Span) → IsFirstWithout home (does (meaningless at) ∷ []) at
   call_refused at = first (does (meaningless at)) [] at (λ h. no_call at h.0 h.1 h.2) (a_call at)
 
-  pub instruction_refused : (to : List Lval) (o : Option BinOp) (n : List ℕ) (args : List Expr) (c : Option Expr) (at : Span) → IsFirstWithout home (parts_in (instruction_tree to o n args c at done)) at
-  instruction_refused to None n args None at = first (does (instruction to n args at)) [] at (λ h. no_instruction to n args at h.0 h.1 h.2) (an_instruction to n args at)
-  instruction_refused to None n args (Some c) at = call_refused at
-  instruction_refused to (Some o) n args c at = call_refused at
+  no_instruction : (to : List Lval) (n : List ℕ) (args : List Expr) (at : Span) → NeverInstruction home to n args → HasOperations home (instruction to n args at) → ⊥
+  no_instruction to n args at none h = by h.0 h.1 h.2
+    where
+      by : (os : List Operation) (is : List Numbers) → Makes home (instruction to n args at) os is → ⊥
+      by os is (by_row k) = elim k [ ]
+      by os is (by_flags k) = none at os is k
 
-  pub assignment_refused : (to : List Lval) (o : Option BinOp) (e : Expr) (c : Option Expr) (at : Span) → NeverLowers home to o e c → IsFirstWithout home (does (assign to o e c at) ∷ []) at
-  assignment_refused to o e c at none = first (does (assign to o e c at)) [] at (λ h. none at h.0 h.1 h.2) (an_assignment to o e c at)
+  pub instruction_refused : (to : List Lval) (n : List ℕ) (args : List Expr) (at : Span) → NeverInstruction home to n args → IsFirstWithout home (does (instruction to n args at) ∷ []) (begins_at to at)
+  instruction_refused to n args at none = first (does (instruction to n args at)) [] (begins_at to at) (no_instruction to n args at none) (an_instruction to n args at)
+
+  pub instruction_code : (to : List Lval) (n : List ℕ) (args : List Expr) (at : Span) (r : PinnedRow) → IsInstructionRow home to n args r → AllCode (does (instruction to n args at) ∷ [])
+  instruction_code to n args at r h =
+      All-cons (HasCode home) (does (instruction to n args at)) [] (pinned_at (begins_at to at) r, pinned_items r.acts, by_flags (h at)) (All-nil (HasCode home))
+
+  -- an intrinsic with `op=` or a condition
+  pub updated_refused : (to : List Lval) (p : BinOp) (n : List ℕ) (args : List Expr) (c : Option Expr) (at : Span) → IsFirstWithout home (parts_in (instruction_tree to (Some p) n args c at done)) at
+  updated_refused to p n args c at = call_refused at
+
+  pub chosen_refused : (to : List Lval) (n : List ℕ) (args : List Expr) (c : Expr) (at : Span) → IsFirstWithout home (parts_in (instruction_tree to None n args (Some c) at done)) at
+  chosen_refused to n args c at = call_refused at
+
+  no_assignment : (to : List Lval) (o : Option BinOp) (e : Expr) (c : Option Expr) (at : Span) → NeverLowers home to o e c → NeverPinned home to o e c → HasOperations home (assign to o e c at) → ⊥
+  no_assignment to o e c at none other h = by h.0 h.1 h.2
+    where
+      by : (os : List Operation) (is : List Numbers) → Makes home (assign to o e c at) os is → ⊥
+      by os is (by_row k) = none at os is k
+      by os is (by_flags k) = other at os is k
+
+  pub assignment_refused : (to : List Lval) (o : Option BinOp) (e : Expr) (c : Option Expr) (at : Span) → NeverLowers home to o e c → NeverPinned home to o e c → IsFirstWithout home (does (assign to o e c at) ∷ []) at
+  assignment_refused to o e c at none other = first (does (assign to o e c at)) [] at (no_assignment to o e c at none other) (an_assignment to o e c at)
 
   pub assignment_code : (to : List Lval) (o : Option BinOp) (e : Expr) (c : Option Expr) (at : Span) (r : Row) → IsRowOf home to o e c r → AllCode (does (assign to o e c at) ∷ [])
-  assignment_code to o e c at r h = All-cons (HasCode home) (does (assign to o e c at)) [] (operations_at at r, items_of r, h at) (All-nil (HasCode home))
+  assignment_code to o e c at r h = All-cons (HasCode home) (does (assign to o e c at)) [] (operations_at at r, items_of r, by_row (h at)) (All-nil (HasCode home))
+
+  pub pinned_code : (to : List Lval) (o : Option BinOp) (e : Expr) (c : Option Expr) (at : Span) (r : PinnedRow) → IsPinnedRow home to o e c r → AllCode (does (assign to o e c at) ∷ [])
+  pinned_code to o e c at r h = All-cons (HasCode home) (does (assign to o e c at)) [] (pinned_at at r, pinned_items r.acts, by_flags (h at)) (All-nil (HasCode home))
 
   -- ---- tests
-  pub no_test : (t : Condition) → NeverCompares home t.cond → HasTest home t → ⊥
-  no_test t none h = by h.0 h.1 h.2
+  pub no_test : (t : Condition) → NeverCompares home t.cond → NeverFlag home t.cond → HasTest home t → ⊥
+  no_test t none other h = by h.0 h.1 h.2
     where
-      by : (a : Asked) (i : Numbers) → LowersTest home t a i → ⊥
-      by a i (tests {compare = o} {c} {p} {q} f) = none t.at o c p q f
+      by : (a : Asked) (i : Numbers) → MakesTest home t a i → ⊥
+      by a i (by_comparison (tests {compare = o} {c} {p} {q} f)) = none t.at o c p q f
+      by a i (by_flag (asks_flag {n} {d} f)) = other n d f
 
   pub no_loop_test : (t : Condition) → (HasTest home t → ⊥) → ((here : Span) → t.cond ≡ expr.Bool true here → ⊥) → HasLoopTest home t → ⊥
   no_loop_test t none truth h = by h.0 h.1 h.2
     where
-      by : (a : Asked) (i : Numbers) → LowersLoopTest home t a i → ⊥
-      by a i (tests_each f) = none (a, i, f)
-      by a i (never_false here e) = truth here e
+      by : (a : Asked) (i : Numbers) → MakesLoopTest home t a i → ⊥
+      by a i (by_loop_test (tests_each f)) = none (a, i, by_comparison f)
+      by a i (by_loop_test (never_false here e)) = truth here e
+      by a i (by_loop_flag f) = none (a, i, by_flag f)
 
   truths_differ : (e : Expr) (here there : Span) → e ≡ expr.Bool false here → e ≡ expr.Bool true there → ⊥
   truths_differ e here there f g = let s : ◌≡◌ {A = Layer} (Expr-F.Expr::Bool false here) (Expr-F.Expr::Bool true there) = sym (out_bool false here) ∙ ap out-Expr (sym f ∙ g) ∙ out_bool true there in absurd cc
 
   pub false_refused : (t : Condition) (here : Span) → t.cond ≡ expr.Bool false here → HasLoopTest home t → ⊥
-  false_refused t here e = no_loop_test t (no_test t (subst (NeverCompares home) (sym e) (truth_never home false here))) (λ there f. truths_differ t.cond here there e f)
+  false_refused t here e =
+      no_loop_test t (no_test t (subst (NeverCompares home) (sym e) (truth_never home false here)) (λ n d f. no_truth home t.cond false n d here e f)) (λ there f. truths_differ t.cond here there e f)

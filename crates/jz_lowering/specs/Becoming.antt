@@ -9,7 +9,7 @@ use Rattle.jz_placing.specs.Variables.{Body}
 use Rattle.jz_place.specs.declared.tree.Node.{Node}
 use Rattle.jz_place.specs.Bodies.{then_body}
 use Rattle.jz_homes.specs.Homes.{Homes}
-use Rattle.jz_row_operations.specs.Bodies.{IsLowered}
+use Rattle.jz_every_row.specs.Bodies.{IsLowered}
 
 -- no call is left
 abbrev pub no_callees : Callees

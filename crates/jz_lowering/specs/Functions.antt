@@ -1,5 +1,5 @@
 -- A function as operations over variables.
-use Rattle.std.specs.Prelude.{◌≡◌, ◌≤◌, ◌^◌, ◌⊎◌, List, [], ◌∷◌, length, map}
+use Rattle.std.specs.Prelude.{◌≡◌, ◌≤◌, ◌^◌, ◌⊎◌, ℕ, List, [], ◌∷◌, length, map}
 use Rattle.x64_insn.specs.declared.types.Place.{Place}
 use Rattle.x64_insn.specs.declared.types.Place.TheVariants as place
 use Rattle.x64_insn.specs.declared.types.Reg.TheVariants as reg
@@ -22,13 +22,12 @@ use Rattle.jz_place.specs.declared.tree.Passed.{Passed}
 use Rattle.jz_place.specs.Bodies.{body_of}
 use Rattle.jz_codable.specs.Ready.{IsReady, IsShort}
 use Rattle.jz_homes.specs.Homes.{Homes}
-use Rattle.jz_row_operations.specs.Bodies.{beside}
+use Rattle.jz_every_row.specs.Bodies.{beside, HasNeedsMet}
 use Rattle.jz_lowered.specs.Functions.{ArePassed, IsLoweredFun}
 use Rattle.jz_short.specs.Lengths.{statements_in}
 use Rattle.jz_operands.specs.TableHomes.{homes_by}
 use Rattle.jz_homing.specs.Tables.{Table, no_homes, with_vars, frame_of}
 use Rattle.jz_homing.specs.Refusals.{IsHomeless}
-use Rattle.jz_total_rows.specs.Bodies.{IsCoveredBody}
 use Rattle.jz_lowering.specs.declared.functions.LoweredFun.{LoweredFun}
 use Rattle.jz_lowering.specs.Becoming.{no_callees}
 use Rattle.jz_lowering.specs.Parts.{parts_in, IsFirstWithout}
@@ -62,10 +61,12 @@ pub record IsFunctionLowered (f : Fun) (l : LoweredFun) (k : Change) : Type 0 wh
   pub stack : l.stack ≡ (table_of f).stack
   pub in_use : l.ir.in_use ≡ all_places
 
--- each run of the body is followed by one of the operations, for each number of turns
+-- each run of the body is followed by one of the operations, for each number of turns, where some
+-- places meet all their needs
 abbrev pub KeepsRuns : Fun → LoweredFun → Change → Type 0
 KeepsRuns f l k =
-    Carries (beside (homes_for f)) (λ s n. Goes statements.source (plain_body f) n s)
+    (places : ℕ → Place) → HasNeedsMet places (body_of l.ir.body)
+    → Carries (beside (homes_for f)) (λ s n. Goes statements.source (plain_body f) n s)
     (λ σ n. Goes (variables (frame_of l.stack)) (body_of l.ir.body) n σ) k
 
 abbrev pub KeepsCases : Fun → LoweredFun → Change → Type 0
@@ -74,10 +75,6 @@ KeepsCases f l k = IsBetween (cases_of (plain_body f)) (cases_of (body_of l.ir.b
 -- it is what machine code asks
 abbrev pub IsReadyFun : LoweredFun → Type 0
 IsReadyFun l = IsReady l.ir
-
--- each of its statements is one of which there are operations, and each of its tests a comparison
-abbrev pub OnlyCovered : Fun → Type 0
-OnlyCovered f = IsCoveredBody (plain_body f)
 
 -- ---- why a function is refused, where what comes before is there
 pub data Refuses (f : Fun) : Span → Type 0 where
@@ -95,9 +92,9 @@ pub data Refuses (f : Fun) : Span → Type 0 where
       → ArePassed (homes_for f) argument_registers (map (λ p. p.var) f.params) ps
       → ArePassed (homes_for f) result_registers f.result rs
       → IsFirstWithout (homes_for f) (parts_in (plain_body f)) at → Refuses f at
-  -- it has 2^25 statements or more, those in branches and loops too, or 2^32 variables; and what it
+  -- it has 2^24 statements or more, those in branches and loops too, or 2^32 variables; and what it
   -- is as operations is too long
   too_long :
-      (2 ^ 25 ≤ statements_in (plain_body f)) ⊎ (2 ^ 32 ≤ length (table_of f).kinds)
+      (2 ^ 24 ≤ statements_in (plain_body f)) ⊎ (2 ^ 32 ≤ length (table_of f).kinds)
       → (l : LoweredFun) → IsFunctionLowered f l (change_of l.change) → (IsShort l.ir → ⊥)
       → Refuses f f.span

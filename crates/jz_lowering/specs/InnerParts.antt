@@ -15,13 +15,17 @@ use Rattle.jz_place.specs.declared.tree.Test.TheVariants as test
 use Rattle.jz_place.specs.Bodies.{asked_of}
 use Rattle.jz_homes.specs.Homes.{Homes}
 use Rattle.jz_row_operations.specs.Codes.{plain}
-use Rattle.jz_row_operations.specs.Lowering.{condition_shown, LowersTest, LowersLoopTest}
-use Rattle.jz_total_rows.specs.Laws.{HasTest, HasLoopTest}
+use Rattle.jz_row_operations.specs.Lowering.{condition_shown}
+use Rattle.jz_every_row.specs.Statements.{MakesTest, MakesLoopTest}
+use Rattle.jz_total_flags.specs.Ready.{HasTest, HasLoopTest}
 use Rattle.jz_operands.specs.TableHomes.{leaks_of}
 use Rattle.jz_rows.specs.declared.row.Act.{Act}
 use Rattle.jz_rows.specs.declared.row.Row.{Row}
 use Rattle.jz_rows.specs.declared.comparing.Comparison.{Comparison}
 use Rattle.jz_rows.specs.Rows.{items_of}
+use Rattle.jz_pinned_rows.specs.declared.row.PinnedRow.{PinnedRow}
+use Rattle.jz_pinned_rows.specs.declared.choosing.FlagTest.{FlagTest}
+use Rattle.jz_pinned_rows.specs.Rows.{items_of as pinned_items}
 use Rattle.jz_lowering.specs.declared.parts.Asking.{Asking}
 use Rattle.jz_lowering.specs.declared.parts.Lowered.{Lowered}
 use Rattle.jz_lowering.specs.Becoming.{no_callees}
@@ -41,6 +45,15 @@ row_lowered at r = record {
   steps = step.Ops (items_of r) ∷ [];
 }
 
+-- with flags that become variables
+abbrev pub pinned_lowered : Span → PinnedRow → Lowered
+pinned_lowered at r = record {
+  nodes =
+      nodes_in at r.acts.before ++ (nodes_in at r.acts.between
+      ++ (node.Do (record { span = at; action = r.acts.last.action; flags = r.flags }) ∷ []));
+  steps = step.Ops (pinned_items r.acts) ∷ [];
+}
+
 -- ---- tests
 abbrev pub asking_of : Span → Comparison → Asking
 asking_of at c = record {
@@ -48,15 +61,21 @@ asking_of at c = record {
   item = condition_shown (leaks_of c.first) (leaks_of c.second) 0;
 }
 
+abbrev pub flag_asking : FlagTest → Asking
+flag_asking t = record {
+  test = test.If None (condition.Flag t.variable t.denied);
+  item = These [];
+}
+
 abbrev pub always_asking : Asking
 always_asking = record { test = test.Always; item = These [] }
 
 abbrev pub IsTest : Homes → Span → Expr → Asking → Type 0
-IsTest home at e a = LowersTest home (record { cond = e; at = at }) (asked_of a.test) a.item
+IsTest home at e a = MakesTest home (record { cond = e; at = at }) (asked_of a.test) a.item
 
 abbrev pub IsLoopTest : Homes → Span → Expr → Asking → Type 0
 IsLoopTest home at e a =
-    LowersLoopTest home (record { cond = e; at = at }) (asked_of a.test) a.item
+    MakesLoopTest home (record { cond = e; at = at }) (asked_of a.test) a.item
 
 -- the test, or it is refused where its statement stands
 abbrev pub TestOr : Homes → Span → Expr → Result Asking Span → Type 0

@@ -7,7 +7,8 @@ use Rattle.jz_tree.specs.declared.stmt.Lval.{Lval}
 use Rattle.jz_runs.specs.Trees.{done, op, quiet, choose, loop, each, call}
 use Rattle.jz_meaning.specs.Statements.{Operation, assign, instruction, meaningless, Condition, Counter, Call, Block}
 use Rattle.jz_homes.specs.Homes.{Homes}
-use Rattle.jz_total_rows.specs.Laws.{HasOperations, HasTest, HasLoopTest}
+use Rattle.jz_flag_rows.specs.Results.{begins_at}
+use Rattle.jz_total_flags.specs.Ready.{HasOperations, HasTest, HasLoopTest}
 
 -- an operation, a test of an `if`, a test of a `while`, a `for`, a call
 pub data Part : Type 0 where
@@ -31,8 +32,9 @@ parts_in (call c b r) = calls c ∷ (parts_in b ++ parts_in r)
 pub data StandsAt : Part → Span → Type 0 where
   an_assignment : (to : List Lval) (o : Option BinOp) (e : Expr) (c : Option Expr) (at : Span)
       → StandsAt (does (assign to o e c at)) at
+  -- where its first left side does
   an_instruction : (to : List Lval) (n : List ℕ) (args : List Expr) (at : Span)
-      → StandsAt (does (instruction to n args at)) at
+      → StandsAt (does (instruction to n args at)) (begins_at to at)
   a_call : (at : Span) → StandsAt (does (meaningless at)) at
   a_test : (c : Condition) → StandsAt (asks c) c.at
   a_loop_test : (c : Condition) → StandsAt (asks_each c) c.at

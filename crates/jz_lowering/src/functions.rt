@@ -4,7 +4,7 @@ ghost use Rattle.std.specs.Prelude.{◌≡◌, IfOk, IfErr};
 ghost use Rattle.jz_tree.specs.Failures.{IfRefused};
 ghost use Rattle.jz_change.specs.Views.{change_of};
 ghost use Rattle.jz_lowering.specs.Functions.{IsFunctionLowered, KeepsRuns, KeepsCases};
-ghost use Rattle.jz_lowering.specs.Functions.{IsReadyFun, OnlyCovered, Refuses};
+ghost use Rattle.jz_lowering.specs.Functions.{IsReadyFun, Refuses};
 ghost use Rattle.jz_lowering.specs.Functions.{all_places as twenty};
 
 use crate::parts::Lowered;
@@ -65,16 +65,14 @@ fn all_places(alloc: Global) -> Result<Seq<Place>, AllocError>
 
 /// The function as operations over variables, with what that makes of its leaks. It is for
 /// functions that the expansion has left: without calls, loops of known bounds and inline
-/// variables. Refused, at its place, where a statement or a test is not covered (a flag result, a
-/// pair of words, a quotient, a condition that is no comparison, an instruction), where a variable
-/// has no home, and where a parameter or a result has no register; and at the function's name,
-/// where it has 2^25 statements or more. The stack grows with the nesting of the text.
+/// variables. Refused, at its place, where a statement or a test has no row, where a variable has
+/// no home, and where a parameter or a result has no register; and at the function's name, where it
+/// has 2^24 statements or more. The stack grows with the nesting of the text.
 pub fn lower(alloc: Global, fun: &Fun) -> Result<LoweredFun, Failure<Span>>
     ensures made { IfOk result (λ l. IsFunctionLowered fun.now l (change_of l.change)) }
     ensures law { IfOk result (λ l. KeepsRuns fun.now l (change_of l.change)) }
     ensures cases { IfOk result (λ l. KeepsCases fun.now l (change_of l.change)) }
     ensures ready { IfOk result IsReadyFun }
-    ensures covered { IfOk result (λ l. OnlyCovered fun.now) }
     ensures refused { IfErr result (λ failure. IfRefused failure (Refuses fun.now)) }
 {
     let lowered = lower_function(alloc, fun)?;

@@ -3,13 +3,15 @@
 ghost use Rattle.std.specs.Prelude.{◌≡◌, ◌∷◌, [], IfOk};
 ghost use Rattle.jz_tree.specs.Failures.{IfAnswered};
 ghost use Rattle.jz_operands.specs.TableHomes.{homes_of};
+ghost use Rattle.jz_rows.specs.Rows.{NeverCompares};
 ghost use Rattle.jz_lowering.specs.InnerParts.{branch_lowered, loop_lowered, TestOr, LoopTestOr};
-ghost use Rattle.jz_lowering.specs.InnerParts.{asking_of, always_asking};
+ghost use Rattle.jz_lowering.specs.InnerParts.{asking_of, flag_asking, always_asking};
 
 use crate::operations::{numbers, operation};
 use jz_change::{Change, Numbers, Step};
 use jz_operands::Homes;
 use jz_operations::Condition;
+use jz_pinned_rows::{FlagTest, flag_test};
 use jz_place::{Node, Test};
 use jz_rows::{Comparison, compared, shown_of};
 use jz_tree::{Expr, Failure, Seq, Span};
@@ -66,7 +68,33 @@ fn asked_at(alloc: Global, span: Span, found: Comparison) -> Result<Asking, Allo
     })
 }
 
-/// The test of an `if`. Refused where it is no comparison, nor one that is denied.
+fn flag_asked(alloc: Global, found: FlagTest) -> Asking
+    ensures { result ≡ flag_asking found }
+{
+    Asking {
+        test: Test::If(None, Condition::Flag(found.variable, found.denied)),
+        item: Numbers::These(Seq::new(alloc)),
+    }
+}
+
+/// A test that is no comparison. Refused where it is no bool variable either, denied or not.
+fn flag_test_at(
+    alloc: Global,
+    homes: &Homes,
+    span: Span,
+    cond: &Expr,
+) -> Result<Asking, Failure<Span>>
+    requires { NeverCompares (homes_of homes.now) cond.now }
+    ensures { IfAnswered result (TestOr (homes_of homes.now) span cond.now) }
+{
+    match flag_test(homes, cond) {
+        None => Err(Failure::Refused(span)),
+        Some(found) => Ok(flag_asked(alloc, found)),
+    }
+}
+
+/// The test of an `if`. Refused where it is neither a comparison nor a bool variable, denied or
+/// not.
 pub(crate) fn test_at(
     alloc: Global,
     homes: &Homes,
@@ -76,7 +104,7 @@ pub(crate) fn test_at(
     ensures { IfAnswered result (TestOr (homes_of homes.now) span cond.now) }
 {
     match compared(homes, cond) {
-        None => Err(Failure::Refused(span)),
+        None => flag_test_at(alloc, homes, span, cond),
         Some(found) => {
             let made = asked_at(alloc, span, found)?;
             Ok(made)

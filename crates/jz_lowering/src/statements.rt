@@ -1,19 +1,23 @@
 //! Statements as operations.
 
-ghost use Rattle.std.specs.Prelude.{IfOk};
+ghost use Rattle.std.specs.Prelude.{IfOk, ◌∷◌, [], None};
 ghost use Rattle.jz_tree.specs.Failures.{IfAnswered};
-ghost use Rattle.jz_runs.specs.Trees.{done};
-ghost use Rattle.jz_meaning.specs.Runs.{block, statement_tree, assign_tree};
+ghost use Rattle.jz_runs.specs.Trees.{done, op as done_by};
+ghost use Rattle.jz_meaning.specs.Runs.{block, statement_tree, assign_tree, instruction_tree};
+ghost use Rattle.jz_meaning.specs.Statements.{assign, instruction};
 ghost use Rattle.jz_operands.specs.TableHomes.{homes_of};
+ghost use Rattle.jz_rows.specs.Rows.{NeverLowers};
 ghost use Rattle.jz_lowering.specs.Becoming.{no_callees, Becomes};
-ghost use Rattle.jz_lowering.specs.Parts.{parts_in, HaveCode};
+ghost use Rattle.jz_lowering.specs.Parts.{does, parts_in, HaveCode};
 ghost use Rattle.jz_lowering.specs.InnerParts.{kind_piece};
 
-use crate::operations::row_at;
+use crate::operations::{pinned_at, row_at};
 use crate::parts::{Lowered, branch, loop_test_at, nothing, test_at, turns};
+use jz_instructions::{begins_at, instruction_row};
 use jz_operands::Homes;
+use jz_pinned_rows::pinned_row_of;
 use jz_rows::row_of;
-use jz_tree::{BinOp, Expr, Failure, Lval, Rhs, Seq, Span, Stmt, StmtKind};
+use jz_tree::{BinOp, Expr, Failure, Lval, Rhs, Seq, Span, Stmt, StmtKind, Text};
 use std::alloc::Global;
 
 /// What is the same for all statements.
@@ -23,8 +27,108 @@ pub(crate) struct Lowerer<'a> {
     pub(crate) homes: &'a Homes,
 }
 
-/// The operations of an assignment. Refused where no row matches it, and of a call and an
-/// instruction.
+/// The operations of such a statement by the table of flags, RAX, RDX and RCX. Refused where that
+/// has no row of it either.
+fn lower_other(
+    lowerer: &Lowerer<'_>,
+    span: Span,
+    to: &Seq<Lval>,
+    op: Option<BinOp>,
+    value: &Expr,
+    cond: &Option<Expr>,
+) -> Result<Lowered, Failure<Span>>
+    requires { NeverLowers (homes_of lowerer.now.homes.now) to.now op value.now cond.now }
+    ensures made { IfOk result (λ made. Becomes (homes_of lowerer.now.homes.now)
+        (done_by (assign to.now op value.now cond.now span)) made.nodes made.steps) }
+    ensures code { IfAnswered result (HaveCode (homes_of lowerer.now.homes.now)
+        (does (assign to.now op value.now cond.now span) ∷ [])) }
+{
+    let found = pinned_row_of(lowerer.alloc, lowerer.homes, to, op, value, cond)?;
+    match found {
+        None => Err(Failure::Refused(span)),
+        Some(row) => {
+            let made = pinned_at(lowerer.alloc, span, row)?;
+            Ok(made)
+        }
+    }
+}
+
+/// The operations of `to = value` or of `to op= value`, or of one with a condition. Refused where
+/// no row matches it.
+fn lower_value(
+    lowerer: &Lowerer<'_>,
+    span: Span,
+    to: &Seq<Lval>,
+    op: Option<BinOp>,
+    value: &Expr,
+    cond: &Option<Expr>,
+) -> Result<Lowered, Failure<Span>>
+    ensures made { IfOk result (λ made. Becomes (homes_of lowerer.now.homes.now)
+        (done_by (assign to.now op value.now cond.now span)) made.nodes made.steps) }
+    ensures code { IfAnswered result (HaveCode (homes_of lowerer.now.homes.now)
+        (does (assign to.now op value.now cond.now span) ∷ [])) }
+{
+    let found = row_of(lowerer.alloc, lowerer.homes, to, op, value, cond)?;
+    match found {
+        None => {
+            let other = lower_other(lowerer, span, to, op, value, cond)?;
+            Ok(other)
+        }
+        Some(row) => {
+            let made = row_at(lowerer.alloc, span, row)?;
+            Ok(made)
+        }
+    }
+}
+
+/// The operations of an intrinsic, where its statement begins. Refused, there, where no row matches
+/// it.
+fn lower_instruction(
+    lowerer: &Lowerer<'_>,
+    to: &Seq<Lval>,
+    name: &Text,
+    args: &Seq<Expr>,
+    at: Span,
+) -> Result<Lowered, Failure<Span>>
+    ensures made { IfOk result (λ made. Becomes (homes_of lowerer.now.homes.now)
+        (done_by (instruction to.now name.now args.now at)) made.nodes made.steps) }
+    ensures code { IfAnswered result (HaveCode (homes_of lowerer.now.homes.now)
+        (does (instruction to.now name.now args.now at) ∷ [])) }
+{
+    let begin = begins_at(to, at);
+    match instruction_row(lowerer.homes, to, name, args) {
+        None => Err(Failure::Refused(begin)),
+        Some(row) => {
+            let made = pinned_at(lowerer.alloc, begin, row)?;
+            Ok(made)
+        }
+    }
+}
+
+/// The operations of an intrinsic, which has no condition. Refused where no row matches it.
+fn lower_named(
+    lowerer: &Lowerer<'_>,
+    to: &Seq<Lval>,
+    name: &Text,
+    args: &Seq<Expr>,
+    cond: &Option<Expr>,
+    at: Span,
+) -> Result<Lowered, Failure<Span>>
+    ensures made { IfOk result (λ made. Becomes (homes_of lowerer.now.homes.now)
+        (instruction_tree to.now None name.now args.now cond.now at) made.nodes made.steps) }
+    ensures code { IfAnswered result (HaveCode (homes_of lowerer.now.homes.now)
+        (parts_in (instruction_tree to.now None name.now args.now cond.now at done))) }
+{
+    match cond {
+        Some(_) => Err(Failure::Refused(at)),
+        None => {
+            let made = lower_instruction(lowerer, to, name, args, at)?;
+            Ok(made)
+        }
+    }
+}
+
+/// The operations of an assignment. Refused where no row matches it, and of a call.
 fn lower_assign(
     lowerer: &Lowerer<'_>,
     span: Span,
@@ -40,17 +144,17 @@ fn lower_assign(
 {
     match rhs {
         Rhs::Value(value) => {
-            let found = row_of(lowerer.alloc, lowerer.homes, to, op, value, cond)?;
-            match found {
-                None => Err(Failure::Refused(span)),
-                Some(row) => {
-                    let made = row_at(lowerer.alloc, span, row)?;
-                    Ok(made)
-                }
-            }
+            let made = lower_value(lowerer, span, to, op, value, cond)?;
+            Ok(made)
         }
         Rhs::Call(_, _, at) => Err(Failure::Refused(*at)),
-        Rhs::Intrinsic(_, _, at) => Err(Failure::Refused(*at)),
+        Rhs::Intrinsic(name, args, at) => match op {
+            Some(_) => Err(Failure::Refused(*at)),
+            None => {
+                let made = lower_named(lowerer, to, name, args, cond, *at)?;
+                Ok(made)
+            }
+        },
     }
 }
 
@@ -137,8 +241,8 @@ fn lower_kind(lowerer: &Lowerer<'_>, span: Span, kind: &StmtKind) -> Result<Lowe
 }
 
 /// The operations of statements that the expansion has left, in their order, with the steps of the
-/// change. Refused, at the place of the first, where a statement has no row, or a test is no
-/// comparison; and of a call, of an instruction and of a `for`. The stack grows with the nesting of
+/// change. Refused, at the place of the first, where a statement has no row, or a test is neither a
+/// comparison nor a bool variable; and of a call and of a `for`. The stack grows with the nesting of
 /// the text.
 pub fn lower_block(
     alloc: Global,

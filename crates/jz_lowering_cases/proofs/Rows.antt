@@ -1,5 +1,5 @@
 -- The operations of a statement show of the frame the places of stack variables that it names, and of its leaked numbers some.
-use Rattle.std.proofs.Common.{◌≡◌, ℕ, ◌+◌, Bool, true, false, List, [], ◌∷◌, ◌++◌, Option, Some, None, refl, sym, subst}
+use Rattle.std.proofs.Common.{◌≡◌, ℕ, ◌+◌, Bool, true, false, List, [], ◌∷◌, ◌++◌, Option, Some, None, refl, subst}
 use Rattle.std.specs.Prelude.{All, Contains, ⊤, not, ◌&&◌, if◌then◌else◌, option_to_list, flat_map}
 use Rattle.std.specs.Option.{option_or}
 use Rattle.std.proofs.lemmas.List.Elements.{All-nil, All-cons, All-append, All-contains_itself}
@@ -26,6 +26,7 @@ use Rattle.jz_operations.specs.declared.operation.Arg.{Arg}
 use Rattle.jz_operations.specs.declared.operation.Arg.TheVariants as arg
 use Rattle.jz_operations.specs.declared.operation.Action.{Action}
 use Rattle.jz_operations.specs.declared.operation.Action.TheVariants as action
+use Rattle.jz_operations.specs.declared.operation.Flags.{Flags}
 use Rattle.jz_operations.specs.declared.operation.Operation.{Operation}
 use Rattle.jz_operations.specs.Rows.{Output, accesses}
 use Rattle.jz_operations.proofs.Somes.{same_some}
@@ -41,31 +42,28 @@ use Rattle.jz_homes.specs.Operands.{Leaks, silent, hidden, told, count_of}
 use Rattle.jz_row_operations.specs.Codes.{no_flag, lasting}
 use Rattle.jz_row_operations.specs.Rows.{commutes, alu_of, carry_alu, shift_of, IsSign, a_minus, a_not}
 use Rattle.jz_row_operations.specs.Table.{same_arg, is_imm, is_free, brought, behind, nothing}
-use Rattle.jz_row_operations.specs.Lowering.{numbers_from, both_shown, two_shown, one_shown, HasRow, moves, sums, carries, signs, times, times_by, shifts, shifts_by, extends, lowest, IsCompared, compares, denies, condition_shown, Lowers, sets, sets_if, LowersTest, tests, LowersLoopTest, tests_each, never_false, lowering}
-use Rattle.jz_row_operations.proofs.HasItems.{lowering_items}
+use Rattle.jz_row_operations.specs.Lowering.{numbers_from, both_shown, two_shown, one_shown, HasRow, moves, sums, carries, signs, times, times_by, shifts, shifts_by, extends, lowest, IsCompared, compares, denies, condition_shown, Lowers, sets, sets_if, LowersTest, tests, LowersLoopTest, tests_each, never_false}
 use Rattle.jz_events.specs.Outs.{division_outs, access_outs, divides, arg_form, first_form, operation_outs, asked_outs}
 use Rattle.jz_compiled.specs.Layout.{Name, Place}
 use Rattle.jz_compiled.specs.Showing.{FormStaysIn, OutStaysIn, OutsStayIn}
 use Rattle.jz_case_names.specs.Items.{Come, none_come, one_comes}
-use Rattle.jz_case_names.proofs.Unrolled.{RuleComes}
 use Rattle.jz_item_names.specs.Names.{keys_in, left_keys, operation_keys, IsLeaked, AreLeaked}
-use Rattle.jz_item_names.specs.Names as names
 use Rattle.jz_item_names.proofs.Keys.{parts}
-use Rattle.jz_lowering_cases.specs.Staying.{shown_of, Shows, ArePlaced, IsInside, IsSmall, left_cells, assigned_cells, OperationInside, TestInside}
+use Rattle.jz_lowering_cases.specs.Staying.{Shows, ArePlaced, IsInside, IsSmall, left_cells, assigned_cells, OperationInside, TestInside}
 use Rattle.jz_lowering_cases.proofs.Parts.{IsOf, of_neg, of_not, of_cast, of_bin, IsLeftOf, whole_is_of}
 use Rattle.jz_lowering_cases.proofs.Operands.{ArgStays, arg_stays, dest_stays}
 
 -- ---- numbers
-abbrev AllLeaked : List Numbers → Type 0
+abbrev pub AllLeaked : List Numbers → Type 0
 AllLeaked [] = ⊤
 AllLeaked (i ∷ is) = AreLeaked i × AllLeaked is
 
-from_leaked : (p : Leaks) (i : ℕ) → All IsLeaked (numbers_from p i)
+pub from_leaked : (p : Leaks) (i : ℕ) → All IsLeaked (numbers_from p i)
 from_leaked silent i = All-nil IsLeaked
 from_leaked hidden i = All-nil IsLeaked
 from_leaked told i = All-cons IsLeaked (Nth i) [] tt (All-nil IsLeaked)
 
-joined_leaked : (xs ys : List Number) → All IsLeaked xs → All IsLeaked ys → AreLeaked (These (xs ++ ys))
+pub joined_leaked : (xs ys : List Number) → All IsLeaked xs → All IsLeaked ys → AreLeaked (These (xs ++ ys))
 joined_leaked xs ys h g = All-append IsLeaked xs ys h g
 
 both_leaked : (b c : Bool) (xs ys : List Number) → All IsLeaked xs → All IsLeaked ys → AllLeaked (both_shown b c xs ys)
@@ -73,13 +71,13 @@ both_leaked true c xs ys h g = (joined_leaked xs ys h g, tt)
 both_leaked false true xs ys h g = (joined_leaked ys xs g h, tt)
 both_leaked false false xs ys h g = (h, (g, tt))
 
-two_leaked : (s : Bool) (d x y : Arg) (p q : Leaks) → AllLeaked (two_shown s d x y p q)
+pub two_leaked : (s : Bool) (d x y : Arg) (p q : Leaks) → AllLeaked (two_shown s d x y p q)
 two_leaked s d x y p q = both_leaked (same_arg d x) (s && same_arg d y) (numbers_from p 0) (numbers_from q (count_of p)) (from_leaked p 0) (from_leaked q (count_of p))
 
-one_leaked : (d x : Arg) (p : Leaks) → AllLeaked (one_shown d x p)
+pub one_leaked : (d x : Arg) (p : Leaks) → AllLeaked (one_shown d x p)
 one_leaked d x p = both_leaked (same_arg d x) false (numbers_from p 0) [] (from_leaked p 0) (All-nil IsLeaked)
 
-row_leaked : {home : Homes} {z : Size} {d : Lval} {e : Expr} {acts : List Action} {items : List Numbers} → HasRow home z d e acts items → AllLeaked items
+pub row_leaked : {home : Homes} {z : Size} {d : Lval} {e : Expr} {acts : List Action} {items : List Numbers} → HasRow home z d e acts items → AllLeaked items
 row_leaked (moves {p = p} {r = r} ia id) = (joined_leaked (numbers_from r (count_of p)) (numbers_from p 0) (from_leaked r (count_of p)) (from_leaked p 0), tt)
 row_leaked (sums {o} {x = x} {y = y} {b = b} {p = p} {q = q} at h ia ic id nn e) = two_leaked (commutes o) b x y p q
 row_leaked (carries {o} {x = x} {y = y} {b = b} {p = p} {q = q} f k inner at h ia ic id nn isf span e) = two_leaked (commutes o) b x y p q
@@ -91,29 +89,29 @@ row_leaked (shifts_by {x = x} {b = b} {p = p} v k there inner at h isv span ia i
 row_leaked (extends {p = p} sign at own smaller ia ni id) = (from_leaked p 0, tt)
 row_leaked (lowest at own le ia id) = (All-nil IsLeaked, tt)
 
-condition_leaked : (p q : Leaks) (i : ℕ) → AreLeaked (condition_shown p q i)
+pub condition_leaked : (p q : Leaks) (i : ℕ) → AreLeaked (condition_shown p q i)
 condition_leaked p q i = joined_leaked (numbers_from p i) (numbers_from q (i + count_of p)) (from_leaked p i) (from_leaked q (i + count_of p))
 
-lowers_leaked : (home : Homes) (o : statements.Operation) (os : List Operation) (items : List Numbers) → Lowers home o os items → AllLeaked items
+pub lowers_leaked : (home : Homes) (o : statements.Operation) (os : List Operation) (items : List Numbers) → Lowers home o os items → AllLeaked items
 lowers_leaked home o os items (sets whole size row once) = row_leaked row
 lowers_leaked home o os items (sets_if {p = p} {q = q} {r = r} z wide kind' h ie ni cmp can) = (condition_leaked q r (count_of p), (from_leaked p 0, tt))
 
 -- ---- what actions show
 module _ (home : Homes) (places : List Place) (slots : ℕ → ℕ) (size : ℕ) (placed : ArePlaced home places slots) (small : IsSmall places size) (called : List Name) where
-  abbrev Arg' : Size → Arg → Type 0
+  abbrev pub Arg' : Size → Arg → Type 0
   Arg' = ArgStays home places slots size placed small called
 
-  abbrev Of : Expr → Type 0
+  abbrev pub Of : Expr → Type 0
   Of = IsOf (Contains called) (IsInside home)
 
-  abbrev LeftOf : Lval → Type 0
+  abbrev pub LeftOf : Lval → Type 0
   LeftOf = IsLeftOf (Contains called) (IsInside home)
 
-  abbrev AccessesStay : List Output → Type 0
+  abbrev pub AccessesStay : List Output → Type 0
   AccessesStay [] = ⊤
   AccessesStay (o ∷ os) = Arg' o.0 o.1 × AccessesStay os
 
-  abbrev ActionStays : Action → Type 0
+  abbrev pub ActionStays : Action → Type 0
   ActionStays a = AccessesStay (accesses a)
 
   abbrev FormMay : Option (Form × Bool) → Type 0
@@ -151,7 +149,7 @@ module _ (home : Homes) (places : List Place) (slots : ℕ → ℕ) (size : ℕ)
   outs_stay a h = access_stays (divides a) (first_form slots size (accesses a)) (accesses_may (accesses a) h)
 
   -- ---- the actions of rows
-  abbrev AllStay : List Action → Type 0
+  abbrev pub AllStay : List Action → Type 0
   AllStay [] = ⊤
   AllStay (a ∷ as') = ActionStays a × AllStay as'
 
@@ -162,24 +160,24 @@ module _ (home : Homes) (places : List Place) (slots : ℕ → ℕ) (size : ℕ)
   way_stays false false true f z b x y acts w hb hx hy e = subst AllStay (same_some _ acts e) ((hb, (hx, tt)), (w y hy, tt))
   way_stays false false false f z b x y acts w hb hx hy e = absurd cc
 
-  brought_stays : (swaps : Bool) (f : Arg → Action) (z : Size) (b x y : Arg) (acts : List Action) → ((u : Arg) → Arg' z u → ActionStays (f u)) → Arg' z b → Arg' z x → Arg' z y
+  pub brought_stays : (swaps : Bool) (f : Arg → Action) (z : Size) (b x y : Arg) (acts : List Action) → ((u : Arg) → Arg' z u → ActionStays (f u)) → Arg' z b → Arg' z x → Arg' z y
       → behind f (brought swaps z b x y) ≡ Some acts → AllStay acts
   brought_stays swaps f z b x y acts w hb hx hy e = way_stays (same_arg b x) (swaps && same_arg b y) (is_free b y) f z b x y acts w hb hx hy e
 
-  arg_in : {z : Size} {e : Expr} {a : Arg} {p : Leaks} → Of e → operands.IsArg home z e a p → Arg' z a
+  pub arg_in : {z : Size} {e : Expr} {a : Arg} {p : Leaks} → Of e → operands.IsArg home z e a p → Arg' z a
   arg_in h i = arg_stays home places slots size placed small called h i
 
-  dest_in : {z : Size} {d : Lval} {b : Arg} {r : Leaks} → LeftOf d → operands.IsDest home z d b r → Arg' z b
+  pub dest_in : {z : Size} {d : Lval} {b : Arg} {r : Leaks} → LeftOf d → operands.IsDest home z d b r → Arg' z b
   dest_in h i = dest_stays home places slots size placed small called h i
 
   signed_of : (o : One) (e a : Expr) → IsSign o e a → Of e → Of a
   signed_of o e a (a_minus b at) h = of_neg (Contains called) (IsInside home) a at h
   signed_of o e a (a_not b at) h = of_not (Contains called) (IsInside home) a at h
 
-  bin_of : (o : BinOp) (a b : Expr) (at : Span) → Of (expr.Bin o a b at) → Of a × Of b
+  pub bin_of : (o : BinOp) (a b : Expr) (at : Span) → Of (expr.Bin o a b at) → Of a × Of b
   bin_of o a b at h = of_bin (Contains called) (IsInside home) o a b at h
 
-  row_stays : {z : Size} {d : Lval} {e : Expr} {acts : List Action} {items : List Numbers} → LeftOf d → Of e → HasRow home z d e acts items → AllStay acts
+  pub row_stays : {z : Size} {d : Lval} {e : Expr} {acts : List Action} {items : List Numbers} → LeftOf d → Of e → HasRow home z d e acts items → AllStay acts
   row_stays l h (moves ia id) = ((dest_in l id, (arg_in h ia, tt)), tt)
   row_stays {z} l h (sums {o} {a} {c} {x = x} {y = y} {b = b} {acts = acts} at so ia ic id nn e) =
       let k = bin_of o a c at h in
@@ -201,21 +199,21 @@ module _ (home : Homes) (places : List Place) (slots : ℕ → ℕ) (size : ℕ)
   row_stays {z} l h (extends {a} {y} sign at own smaller ia ni id) = ((arg_in (of_cast (Contains called) (IsInside home) z sign a at h) ia, tt), tt)
   row_stays l h (lowest at own le ia id) = ((tt, (tt, tt)), tt)
 
-  compared_stays : {at : Span} {e : Expr} {o : Operation} {c : Cond} {p q : Leaks} → Of e → IsCompared home at e o c p q → ActionStays o.action
+  pub compared_stays : {at : Span} {e : Expr} {o : Operation} {c : Cond} {p q : Leaks} → Of e → IsCompared home at e o c p q → ActionStays o.action
   compared_stays h (compares {o} {a = a} {b = b} here is s ia ib ni can) = let k = bin_of o a b here h in (arg_in k.0 ia, (arg_in k.1 ib, tt))
   compared_stays h (denies {e} here k) = compared_stays (of_not (Contains called) (IsInside home) e here h) k
 
   -- ---- the operations of a statement
-  abbrev OpsStay : List Operation → Type 0
+  abbrev pub OpsStay : List Operation → Type 0
   OpsStay [] = ⊤
   OpsStay (o ∷ os) = ActionStays o.action × OpsStay os
 
-  lasting_stay : (at : Span) (acts : List Action) → AllStay acts → OpsStay (lasting at no_flag acts)
-  lasting_stay at [] h = tt
-  lasting_stay at (a ∷ []) h = h
-  lasting_stay at (a ∷ b ∷ more) h = (h.0, lasting_stay at (b ∷ more) h.1)
+  pub lasting_stay : (at : Span) (fl : Flags) (acts : List Action) → AllStay acts → OpsStay (lasting at fl acts)
+  lasting_stay at fl [] h = tt
+  lasting_stay at fl (a ∷ []) h = h
+  lasting_stay at fl (a ∷ b ∷ more) h = (h.0, lasting_stay at fl (b ∷ more) h.1)
 
-  come_of : {os : List Operation} {is : List Numbers} → AsMany os is → OpsStay os → AllLeaked is → Come (Shows places size) (λ (o : Operation). operation_outs slots size o.action) called os is
+  pub come_of : {os : List Operation} {is : List Numbers} → AsMany os is → OpsStay os → AllLeaked is → Come (Shows places size) (λ (o : Operation). operation_outs slots size o.action) called os is
   come_of none_each h g = none_come
   come_of (one_each {o} m) h g = one_comes (record { stays = outs_stay o.action h.0; leaked = g.0 }) (come_of m h.1 g.1)
 
@@ -253,36 +251,31 @@ module _ (home : Homes) (places : List Place) (slots : ℕ → ℕ) (size : ℕ)
     cells : All (IsInside home) (left_cells d) × (All (IsInside home) (cells_in w) × All (IsInside home) (flat_map cells_in (option_to_list c)))
     cells = three_cells d w (flat_map cells_in (option_to_list c)) (subst (λ x. All (IsInside home) (assigned_cells (d ∷ []) x c)) whole inside)
 
-    left_is : IsLeftOf (Contains a) (IsInside home) d
+    pub left_is : IsLeftOf (Contains a) (IsInside home) d
     left_is = record { keys = keys.0; cells = cells.0 }
 
-    right_is : IsOf (Contains a) (IsInside home) w
+    pub right_is : IsOf (Contains a) (IsInside home) w
     right_is =
         let r = whole_is_of (Contains a) Nothing d o e w (record { keys = keys.0; cells = any_cells (left_cells d) }) (record { keys = keys.1.0; cells = any_cells (cells_in e) }) whole in
         record { keys = r.keys; cells = cells.1.0 }
 
-  condition_is : (d : Lval) (e k : Expr) (at : Span) → (inside : OperationInside home (statements.assign (d ∷ []) None e (Some k) at)) → IsOf (Contains (operation_keys (statements.assign (d ∷ []) None e (Some k) at))) (IsInside home) k
+  pub condition_is : (d : Lval) (e k : Expr) (at : Span) → (inside : OperationInside home (statements.assign (d ∷ []) None e (Some k) at)) → IsOf (Contains (operation_keys (statements.assign (d ∷ []) None e (Some k) at))) (IsInside home) k
   condition_is d e k at inside = record {
     keys = (parts (Contains (operation_keys (statements.assign (d ∷ []) None e (Some k) at))) (keys_in k) [] (keys d None e e (Some k) at refl inside).1.1).0;
     cells = (parts (IsInside home) (cells_in k) [] (cells d None e e (Some k) at refl inside).1.1).0;
   }
 
-  ops_stay : (o : statements.Operation) (os : List Operation) (items : List Numbers) → OperationInside home o → Lowers home o os items → OpsStay home places slots size placed small (operation_keys o) os
+  pub ops_stay : (o : statements.Operation) (os : List Operation) (items : List Numbers) → OperationInside home o → Lowers home o os items → OpsStay home places slots size placed small (operation_keys o) os
   ops_stay o os items inside (sets {d} {o = p} {e} {w} {z} {acts} {at = at} whole s row once) =
       let a = operation_keys (statements.assign (d ∷ []) p e None at) in
-      lasting_stay home places slots size placed small a at acts (row_stays home places slots size placed small a (left_is d p e w None at whole inside) (right_is d p e w None at whole inside) row)
+      lasting_stay home places slots size placed small a at no_flag acts (row_stays home places slots size placed small a (left_is d p e w None at whole inside) (right_is d p e w None at whole inside) row)
   ops_stay o os items inside (sets_if {x} {e} {k} {at = at} z wide kind' h ie ni cmp can) =
       let a = operation_keys (statements.assign (lval.Var x ∷ []) None e (Some k) at) in (
         compared_stays home places slots size placed small a (condition_is (lval.Var x) e k at inside) cmp,
         ((arg_in home places slots size placed small a (right_is (lval.Var x) None e e (Some k) at refl inside) ie, tt), tt),
       )
 
-  op_comes : (o : statements.Operation) (os : List Operation) (items : List Numbers) → OperationInside home o → Lowers home o os items → Come (Shows places size) (λ (x : Operation). operation_outs slots size x.action) (operation_keys o) os items
-  op_comes o os items inside l =
-      let many = lowering_items home in
-      come_of home places slots size placed small (operation_keys o) (many.ops o tt tt os items l) (ops_stay o os items inside l) (lowers_leaked home o os items l)
-
-  test_shows : (t : Condition) (asked : Asked) (i : Numbers) → TestInside home t → LowersTest home t asked i → Shows places size (keys_in t.cond) i (asked_outs slots size asked)
+  pub test_shows : (t : Condition) (asked : Asked) (i : Numbers) → TestInside home t → LowersTest home t asked i → Shows places size (keys_in t.cond) i (asked_outs slots size asked)
   test_shows t asked i inside (tests {compare} {p = p} {q = q} cmp) =
       let a = keys_in t.cond in
       record {
@@ -290,17 +283,6 @@ module _ (home : Homes) (places : List Place) (slots : ℕ → ℕ) (size : ℕ)
         leaked = condition_leaked p q 0;
       }
 
-  loop_test_shows : (t : Condition) (asked : Asked) (i : Numbers) → TestInside home t → LowersLoopTest home t asked i → Shows places size (keys_in t.cond) i (asked_outs slots size asked)
+  pub loop_test_shows : (t : Condition) (asked : Asked) (i : Numbers) → TestInside home t → LowersLoopTest home t asked i → Shows places size (keys_in t.cond) i (asked_outs slots size asked)
   loop_test_shows t asked i inside (tests_each h) = test_shows t asked i inside h
   loop_test_shows t asked i inside (never_false here e) = record { stays = All-nil (OutStaysIn places size (keys_in t.cond)); leaked = All-nil IsLeaked }
-
-  nothing_comes : (a : List Name) (os : List Operation) (items : List Numbers) → os ≡ [] → items ≡ [] → Come (Shows places size) (λ (x : Operation). operation_outs slots size x.action) a os items
-  nothing_comes a os items e f =
-      subst (λ x. Come (Shows places size) (λ (y : Operation). operation_outs slots size y.action) a x items) (sym e) (subst (Come (Shows places size) (λ (y : Operation). operation_outs slots size y.action) a []) (sym f) none_come)
-
-  pub lowering_rule : RuleComes (lowering home) (OperationInside home) (TestInside home) (Shows places size) names.plain (shown_of slots size)
-  lowering_rule = record {
-    ops = λ o e e1 os is inside l. op_comes o os is inside l;
-    tests = λ t e os is asked i inside l. (nothing_comes (keys_in t.cond) os is l.0 l.1, test_shows t asked i inside l.2);
-    loop_tests = λ t e os is asked i inside l. (nothing_comes (keys_in t.cond) os is l.0 l.1, loop_test_shows t asked i inside l.2);
-  }

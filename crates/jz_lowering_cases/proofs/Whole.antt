@@ -26,8 +26,7 @@ use Rattle.jz_change.specs.Changes.{Change}
 use Rattle.jz_change.specs.Composing.{numbers_by, compose_of}
 use Rattle.jz_change.specs.Flattening.{form_of, indexed_form, form_by, out_by, outs_by, tr_of, flat}
 use Rattle.jz_homes.specs.Homes.{Homes}
-use Rattle.jz_row_operations.specs.Lowering.{lowering}
-use Rattle.jz_row_operations.specs.Bodies.{without_marks, IsLowered}
+use Rattle.jz_every_row.specs.Bodies.{lowering, without_marks, IsLowered}
 use Rattle.jz_events.specs.Outs.{operation_outs, asked_outs}
 use Rattle.jz_events.specs.Cases.{jump_outs, if_case, while_case, cases_over}
 use Rattle.jz_compiled.specs.Layout.{Name, Place}
@@ -40,7 +39,7 @@ use Rattle.jz_case_names.proofs.Flat.{all_flat}
 use Rattle.jz_item_names.specs.Names.{plain, IsLeaked, AreLeaked, NamesOf}
 use Rattle.jz_item_names.proofs.Numbers.{number_at, leaked_both}
 use Rattle.jz_lowering_cases.specs.Staying.{shown_of, Shows, ArePlaced, OperationInside, TestInside, HasCellsInside, IsSmall, IsListOf, the_list, no_jump, a_jump}
-use Rattle.jz_lowering_cases.proofs.Rows.{lowering_rule}
+use Rattle.jz_lowering_cases.proofs.Rules.{lowering_rule}
 
 -- ---- marks have no items
 same_item : (f : Items (List Out) → Items (List Out) → Items (List Out) → Items (List Out)) {x y z x' y' z' : Items (List Out)} → x ≡ x' → y ≡ y' → z ≡ z' → f x y z ≡ f x' y' z'

@@ -6,7 +6,7 @@ use Rattle.jz_change.specs.Composing.{compose_of}
 use Rattle.jz_change.specs.Flattening.{flat}
 use Rattle.jz_placing.specs.Variables.{Body}
 use Rattle.jz_homes.specs.Homes.{Homes}
-use Rattle.jz_row_operations.specs.Bodies.{IsLowered}
+use Rattle.jz_every_row.specs.Bodies.{IsLowered}
 use Rattle.jz_events.specs.Cases.{cases_over}
 use Rattle.jz_compiled.specs.Layout.{Name, Place}
 use Rattle.jz_compiled.specs.Showing.{OutsStayIn}

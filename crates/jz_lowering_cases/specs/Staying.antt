@@ -7,6 +7,8 @@ use Rattle.jz_words.specs.Words.{residue}
 use Rattle.jz_words.specs.declared.size.Size.TheVariants.{S64}
 use Rattle.jz_leak.specs.declared.transformer.Out.{Out}
 use Rattle.jz_leak.specs.declared.transformer.Out.TheVariants as out
+use Rattle.jz_tree.specs.Spellings.{spelled}
+use Rattle.jz_tree.specs.declared.intrinsic.Instance.{Instance}
 use Rattle.jz_tree.specs.declared.expr.Expr.{Expr}
 use Rattle.jz_tree.specs.declared.expr.Expr.TheViews.{out-Access}
 use Rattle.jz_tree.specs.declared.expr.Var.{Var}
@@ -17,7 +19,7 @@ use Rattle.jz_meaning.specs.declared.access.Kind.TheVariants as kind
 use Rattle.jz_meaning.specs.States.{Key}
 use Rattle.jz_meaning.specs.Values.{ref_of}
 use Rattle.jz_meaning.specs.Assignments.{last_left, whole_of}
-use Rattle.jz_meaning.specs.Statements.{Operation as Statement, assign, Condition, Block}
+use Rattle.jz_meaning.specs.Statements.{Operation as Statement, assign, instruction, Condition, Block}
 use Rattle.jz_operations.specs.declared.operation.Operation.{Operation}
 use Rattle.jz_placing.specs.Variables.{Asked}
 use Rattle.jz_change.specs.declared.change.Numbers.{Numbers}
@@ -78,8 +80,14 @@ assigned_cells to None c = []
 assigned_cells to (Some w) c =
     flat_map left_cells to ++ cells_in w ++ flat_map cells_in (option_to_list c)
 
+-- those of an intrinsic
+abbrev pub instructed_cells : Option Instance → List Lval → List Expr → Cells
+instructed_cells None to args = []
+instructed_cells (Some i) to args = flat_map left_cells to ++ flat_map cells_in args
+
 abbrev pub statement_cells : Statement → Cells
 statement_cells (assign to o e c at) = assigned_cells to (whole_of (last_left to) o e) c
+statement_cells (instruction to n args at) = instructed_cells (spelled n) to args
 statement_cells other = []
 
 abbrev pub OperationInside : Homes → Statement → Type 0

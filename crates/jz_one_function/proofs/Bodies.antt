@@ -15,9 +15,8 @@ use Rattle.jz_pass.specs.Operations.{in_turn}
 use Rattle.jz_pass.specs.Unrolling.{Unrolls, u_done, u_op, u_quiet, u_if, u_arm, u_while, u_once, u_for}
 use Rattle.jz_place.specs.declared.tree.Passed.{Passed}
 use Rattle.jz_homes.specs.Homes.{Homes, in_register}
-use Rattle.jz_row_operations.specs.Lowering.{lowering}
-use Rattle.jz_row_operations.specs.Bodies.{without_marks, IsLowered}
-use Rattle.jz_one_row.proofs.Statements.{one_lowers, one_test, one_loop_test}
+use Rattle.jz_every_row.specs.Bodies.{lowering, without_marks, IsLowered}
+use Rattle.jz_one_function.proofs.Statements.{one_made, one_made_test, one_made_loop_test}
 use Rattle.jz_place.specs.declared.tree.Ir.{Ir}
 use Rattle.jz_place.specs.Bodies.{body_of}
 use Rattle.jz_lowered.specs.Functions.{ArePassed, none_passed, one_passed, IsLoweredFun}
@@ -39,12 +38,12 @@ module _ (home : Homes) where
   one_body : {t : Block} {e e1 e2 e3 : ⊤} {rest u rest2 v : Body} {j k : Change} → Unrolls (lowering home) t e rest u e1 j → Unrolls (lowering home) t e2 rest2 v e3 k → without_marks rest ≡ without_marks rest2 → Same u v j k
   one_body u_done u_done same = record { bodies = same; changes = refl }
   one_body (u_op {o} {u} {os} {is} h i) (u_op {u = u2} {os = os2} {is = is2} g l) same =
-      let w = one_lowers home o os os2 is is2 h g in
+      let w = one_made home o os os2 is is2 h g in
       let r = one_body i l same in
       record { bodies = turn_same os os2 u u2 w.0 r.bodies; changes = ap₂ ops w.1 r.changes }
   one_body (u_quiet h i) (u_quiet g l) same = let r = one_body i l same in record { bodies = r.bodies; changes = r.changes }
   one_body (u_if {p} {u} {a2} {b2} {os} {is} {p2} {i = n} {ta} {tb} {k} h ia ib la lb i) (u_if {u = u'} {a2 = a2'} {b2 = b2'} {os = os'} {is = is'} {p2 = p2'} {i = n'} {ta = ta'} {tb = tb'} {k = k'} g ja jb ma mb l) same =
-      let w = one_test home p p2 p2' n n' h.2 g.2 in
+      let w = one_made_test home p p2 p2' n n' h.2 g.2 in
       let ra = one_body ia ja refl in
       let rb = one_body ib jb refl in
       let r = one_body i l same in
@@ -57,7 +56,7 @@ module _ (home : Homes) where
   one_body (u_arm x ia i) g same = absurd x
   one_body (u_if h ia ib la lb i) (u_arm x ja l) same = absurd x
   one_body (u_while {h = q} {p} {u} {q2} {b2} {os} {is} {p2} {i = n} {tq} {tb} {k} le h iq ib lb lr i) (u_while {u = u'} {q2 = q2'} {b2 = b2'} {os = os'} {is = is'} {p2 = p2'} {i = n'} {tq = tq'} {tb = tb'} {k = k'} le' g jq jb mb mr l) same =
-      let w = one_loop_test home p p2 p2' n n' h.2 g.2 in
+      let w = one_made_loop_test home p p2 p2' n n' h.2 g.2 in
       let o : os ≡ os' = h.0 ∙ sym g.0 in
       let s : is ≡ is' = h.1 ∙ sym g.1 in
       let rq = one_body iq jq (turn_same os os' done done o refl) in

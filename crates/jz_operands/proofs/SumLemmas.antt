@@ -19,7 +19,8 @@ use Rattle.jz_operands.specs.declared.sums.Term.{Term}
 use Rattle.jz_operands.specs.declared.sums.Found.TheVariants.{Nothing, One, Two}
 use Rattle.jz_operands.specs.declared.sums.Terms.{Terms}
 use Rattle.jz_operands.specs.Refusals.{FindsOr}
-use Rattle.jz_operands.specs.InnerSums.{pair_of, pairs_of, SumsBefore, IsWhole, IsAddressOf, IsBased, base_first, base_second, IsIndexOf}
+use Rattle.jz_operands.specs.SumTerms.{pair_of, pairs_of, IsWhole}
+use Rattle.jz_operands.specs.InnerSums.{SumsBefore, IsAddressOf, IsBased, base_first, base_second, IsIndexOf}
 
 pub for_some : {A : Type 0} {P Q : A → Type 0} (o : Option A) → ((x : A) → P x → Q x) → IfSome o P → IfSome o Q
 for_some None f h = h
@@ -91,10 +92,10 @@ whole_sum rest all h e f = record {
   number = whole all.number (residue S64 h.sum.number) rest.number h.joins.number f (residue_below S64 h.sum.number);
 }
 
-reading_is : (d : ℤ) (n : ℕ) (i : ℤ) → d ≡ signed S64 (n % 2 ^ 64) → n % 2 ^ 64 ≡ residue S64 i → d ≡ reading_of S64 i
+pub reading_is : (d : ℤ) (n : ℕ) (i : ℤ) → d ≡ signed S64 (n % 2 ^ 64) → n % 2 ^ 64 ≡ residue S64 i → d ≡ reading_of S64 i
 reading_is d n i e f = e ∙ ap (signed S64) f
 
-sum_is : (s : Sum) (ts : List (ℕ × ℕ)) → ts ≡ s.terms → s ≡ sum_of ts s.number
+pub sum_is : (s : Sum) (ts : List (ℕ × ℕ)) → ts ≡ s.terms → s ≡ sum_of ts s.number
 sum_is s ts e = λ i. record { terms = sym e i; number = s.number }
 
 pub base_address : {home : Homes} {e : Expr} (all : Terms) (t : Term) (d : ℤ) → IsWhole home e all → all.found ≡ One t → t.factor ≡ 1 → d ≡ signed S64 (all.number % 2 ^ 64) → IsAddressOf home e (record { base = Some t.variable; index = None; disp = d })

@@ -23,7 +23,8 @@ use Rattle.jz_operands.specs.declared.sums.Found.{Found}
 use Rattle.jz_operands.specs.declared.sums.Found.TheVariants.{Nothing, One, Two}
 use Rattle.jz_operands.specs.declared.sums.Terms.{Terms}
 use Rattle.jz_operands.specs.Refusals.{is_scale, HasScale, NeverAddress, NeverIndex}
-use Rattle.jz_operands.specs.InnerSums.{pair_of, pairs_of, SumsBefore, IsWhole, IsBased, base_first, base_second, NeverBefore, NeverWhole, NeverNumber, NeverBased}
+use Rattle.jz_operands.specs.SumTerms.{pair_of, pairs_of, IsWhole, NeverWhole}
+use Rattle.jz_operands.specs.InnerSums.{SumsBefore, IsBased, base_first, base_second, NeverBefore, NeverNumber, NeverBased}
 
 -- ---- expressions by their layers
 num_of : (e : Expr) (i : ℤ) (at : Span) → out-Expr e ≡ Expr-F.Num i at → e ≡ expr.Num i at
@@ -198,7 +199,7 @@ module _ (home : Homes) where
   two_few : (n : ℕ) → n ≡ 2 → n ≤ 2
   two_few n e = omega (arith, e)
 
-  few_in_address : (t : Sum) (m : Address) → IsAddress t m → length t.terms ≤ 2
+  pub few_in_address : (t : Sum) (m : Address) → IsAddress t m → length t.terms ≤ 2
   few_in_address t m (of_base b i) = one_few (length {A = ℕ × ℕ} ((b, 1) ∷ [])) refl
   few_in_address t m (of_both b j k i) = two_few (length {A = ℕ × ℕ} ((b, 1) ∷ (j, k) ∷ [])) refl
   few_in_address t m (of_swapped b j k i ne) = two_few (length {A = ℕ × ℕ} ((j, k) ∷ (b, 1) ∷ [])) refl
@@ -223,10 +224,10 @@ module _ (home : Homes) where
   pub no_sum_address : (e : Expr) → NeverWhole home e → NeverAddress home e
   no_sum_address e none t m h is fits scale = none t h (few_in_address t m is)
 
-  reading_of_whole : (e : Expr) (all : Terms) (t : Sum) → IsWhole home e all → IsSum home e t → signed S64 (all.number % 2 ^ 64) ≡ reading_of S64 t.number
+  pub reading_of_whole : (e : Expr) (all : Terms) (t : Sum) → IsWhole home e all → IsSum home e t → signed S64 (all.number % 2 ^ 64) ≡ reading_of S64 t.number
   reading_of_whole e all t w h = ap (signed S64) w.number ∙ ap (λ (s : Sum). reading_of S64 s.number) (one_sum home e w.sum t w.is h)
 
-  terms_of_whole : (e : Expr) (all : Terms) (t : Sum) → IsWhole home e all → IsSum home e t → pairs_of all.found ≡ t.terms
+  pub terms_of_whole : (e : Expr) (all : Terms) (t : Sum) → IsWhole home e all → IsSum home e t → pairs_of all.found ≡ t.terms
   terms_of_whole e all t w h = w.terms ∙ ap (λ (s : Sum). s.terms) (one_sum home e w.sum t w.is h)
 
   pub no_displacement : (e : Expr) (all : Terms) → IsWhole home e all → fits_bytes 4 (signed S64 (all.number % 2 ^ 64)) ≡ false → NeverAddress home e

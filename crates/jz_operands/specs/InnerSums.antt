@@ -1,5 +1,5 @@
--- The terms of a sum as the code has them.
-use Rattle.std.specs.Prelude.{◌≡◌, ℕ, ◌+◌, ◌%◌, ◌^◌, ◌≤◌, IsTrue, List, [], ◌∷◌, ◌++◌, length, Option, ℤ}
+-- What the code that finds sums keeps.
+use Rattle.std.specs.Prelude.{◌≡◌, ℕ, ◌+◌, ◌%◌, ◌^◌, ◌≤◌, IsTrue, ◌++◌, length, Option, ℤ}
 use Rattle.jz_words.specs.declared.size.Size.TheVariants.{S64}
 use Rattle.jz_words.specs.Words.{residue}
 use Rattle.jz_tree.specs.Span.{Span}
@@ -9,18 +9,9 @@ use Rattle.jz_operations.specs.declared.operation.Address.{Address}
 use Rattle.jz_homes.specs.Homes.{Homes}
 use Rattle.jz_homes.specs.Sums.{Sum, IsSum, IsAddress, IsIndex}
 use Rattle.jz_operands.specs.declared.sums.Term.{Term}
-use Rattle.jz_operands.specs.declared.sums.Found.{Found}
-use Rattle.jz_operands.specs.declared.sums.Found.TheVariants.{Nothing, One, Two}
 use Rattle.jz_operands.specs.declared.sums.Terms.{Terms}
 use Rattle.jz_operands.specs.Refusals.{is_scale}
-
-abbrev pub pair_of : Term → ℕ × ℕ
-pair_of t = (t.variable, t.factor)
-
-abbrev pub pairs_of : Found → List (ℕ × ℕ)
-pairs_of Nothing = []
-pairs_of (One t) = pair_of t ∷ []
-pairs_of (Two t u) = pair_of t ∷ pair_of u ∷ []
+use Rattle.jz_operands.specs.SumTerms.{pairs_of}
 
 -- the terms of a sum before others; numbers are taken modulo 2^64
 pub record Joins (t : Sum) (rest all : Terms) : Type 0 where
@@ -32,13 +23,6 @@ pub record SumsBefore (home : Homes) (e : Expr) (rest all : Terms) : Type 0 wher
   pub sum : Sum
   pub is : IsSum home e sum
   pub joins : Joins sum rest all
-
--- the sum of an expression, whose terms and number these are
-pub record IsWhole (home : Homes) (e : Expr) (all : Terms) : Type 0 where
-  pub sum : Sum
-  pub is : IsSum home e sum
-  pub terms : pairs_of all.found ≡ sum.terms
-  pub number : all.number % 2 ^ 64 ≡ residue S64 sum.number
 
 -- the expression is an address
 pub record IsAddressOf (home : Homes) (e : Expr) (m : Address) : Type 0 where
@@ -62,9 +46,6 @@ pub record IsIndexOf (home : Homes) (e : Expr) (b : Option ℕ) (i : ℤ) : Type
 abbrev pub NeverBefore : Homes → Expr → Terms → Type 0
 NeverBefore home e rest =
     (t : Sum) → IsSum home e t → length t.terms + length (pairs_of rest.found) ≤ 2 → ⊥
-
-abbrev pub NeverWhole : Homes → Expr → Type 0
-NeverWhole home e = (t : Sum) → IsSum home e t → length t.terms ≤ 2 → ⊥
 
 abbrev pub NeverNumber : Expr → Type 0
 NeverNumber e = (i : ℤ) (at : Span) → e ≡ expr.Num i at → ⊥

@@ -1,3 +1,4 @@
+pub mod SumTerms
 pub mod TableHomes
 pub mod Refusals
 pub mod InnerSums

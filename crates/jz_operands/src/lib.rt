@@ -7,4 +7,4 @@ mod sums;
 
 pub use homes::{Home, Homes};
 pub use operands::{Leaks, Operand, destination_of, operand_of};
-pub use sums::{Index, address_of, index_of};
+pub use sums::{Found, Index, Term, Terms, address_of, displacement, index_of, scale, terms_of};

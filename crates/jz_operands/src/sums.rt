@@ -11,8 +11,10 @@ ghost use Rattle.jz_homes.specs.Homes.{in_register};
 ghost use Rattle.jz_meaning.specs.Values.{key_of, ref_of};
 ghost use Rattle.jz_operands.specs.TableHomes.{homes_of};
 ghost use Rattle.jz_words.specs.Sizes.{signed};
-ghost use Rattle.jz_operands.specs.InnerSums.{pair_of, pairs_of, SumsBefore, IsBased, IsWhole};
-ghost use Rattle.jz_operands.specs.InnerSums.{IsAddressOf, IsIndexOf, NeverBefore, NeverWhole};
+ghost use Rattle.jz_operands.specs.SumTerms.{pair_of, pairs_of, IsWhole};
+ghost use Rattle.jz_operands.specs.InnerSums.{SumsBefore, IsBased};
+ghost use Rattle.jz_operands.specs.SumTerms.{NeverWhole};
+ghost use Rattle.jz_operands.specs.InnerSums.{IsAddressOf, IsIndexOf, NeverBefore};
 ghost use Rattle.jz_operands.specs.InnerSums.{NeverBased, NeverNumber};
 ghost use Rattle.jz_operands.specs.Refusals.{FindsOr, is_scale, NeverAddress, NeverIndex};
 
@@ -23,14 +25,14 @@ use jz_words::{Word, fits_four_bytes, residue};
 
 /// A variable with its factor.
 #[derive(Clone, Copy)]
-pub(crate) struct Term {
-    pub(crate) variable: u32,
-    pub(crate) factor: u64,
+pub struct Term {
+    pub variable: u32,
+    pub factor: u64,
 }
 
 /// At most two terms, in the order of the text.
 #[derive(Clone, Copy)]
-pub(crate) enum Found {
+pub enum Found {
     Nothing,
     One(Term),
     Two(Term, Term),
@@ -38,9 +40,9 @@ pub(crate) enum Found {
 
 /// The terms of a sum, and its number modulo 2^64.
 #[derive(Clone, Copy)]
-pub(crate) struct Terms {
-    pub(crate) found: Found,
-    pub(crate) number: u64,
+pub struct Terms {
+    pub found: Found,
+    pub number: u64,
 }
 
 fn word_64(number: i128) -> u64
@@ -218,9 +220,9 @@ fn nothing() -> Terms
     }
 }
 
-/// The sum that an expression is.
+/// The sum that an expression is, where it has two terms at most.
 #[tactic(auto, using(crate::proofs::SumLemmas::whole_sum))]
-fn whole(homes: &Homes, e: &Expr) -> Option<Terms>
+pub fn terms_of(homes: &Homes, e: &Expr) -> Option<Terms>
     ensures { let home = homes_of homes.now in
         FindsOr result (IsWhole home e.now) (NeverWhole home e.now) }
 {
@@ -228,7 +230,7 @@ fn whole(homes: &Homes, e: &Expr) -> Option<Terms>
 }
 
 /// The signed reading of a number of 64 bits, where it has 32.
-fn displacement(number: u64) -> Option<i32>
+pub fn displacement(number: u64) -> Option<i32>
     ensures { let reading = signed S64 (number % 2 ^ 64) in
         FindsOr result (λ d. d ≡ reading) (fits_bytes 4 reading ≡ false) }
 {
@@ -241,7 +243,7 @@ fn displacement(number: u64) -> Option<i32>
 }
 
 /// A factor that an address has.
-fn scale(factor: u64) -> Option<u8>
+pub fn scale(factor: u64) -> Option<u8>
     ensures { FindsOr result (λ s. s ≡ factor) (is_scale factor ≡ false) }
 {
     match factor {
@@ -275,7 +277,7 @@ pub fn address_of(homes: &Homes, at: &Expr) -> Option<Address>
     ensures { let home = homes_of homes.now in
         FindsOr result (IsAddressOf home at.now) (NeverAddress home at.now) }
 {
-    let terms = whole(homes, at)?;
+    let terms = terms_of(homes, at)?;
     let disp = displacement(terms.number)?;
     match terms.found {
         Found::Nothing => None,
@@ -314,7 +316,7 @@ pub fn index_of(homes: &Homes, at: &Expr) -> Option<Index>
     ensures { let home = homes_of homes.now in
         FindsOr result (λ i. IsIndexOf home at.now i.variable i.offset) (NeverIndex home at.now) }
 {
-    let terms = whole(homes, at)?;
+    let terms = terms_of(homes, at)?;
     let offset = displacement(terms.number)?;
     match terms.found {
         Found::Nothing => Some(Index {

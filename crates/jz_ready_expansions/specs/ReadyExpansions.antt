@@ -10,7 +10,7 @@ use Rattle.jz_change.specs.Changes.{Change}
 use Rattle.jz_function_runs.specs.FunctionRuns.{plain_body}
 use Rattle.jz_expansion.specs.Expansions.{IsExpansion}
 use Rattle.jz_homes.specs.Homes.{Homes}
-use Rattle.jz_total_rows.specs.Bodies.{IsReadyBody}
+use Rattle.jz_total_flags.specs.Bodies.{IsReadyBody}
 use Rattle.jz_ready_expansions.specs.ExpandedBodies.{IsExpandedBody}
 
 -- its statements are well typed and within the limits and its tests are conditions, whatever the

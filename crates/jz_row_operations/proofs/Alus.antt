@@ -60,7 +60,7 @@ alu_ends frame op y c k at fl z b σ left right sh w asks nm reads shows = recor
       );
 }
 
-carry_asks : (op : BinOp) (c : Pinned) (k : Bool) (σ : over.State) → IsCarryOp op → truth (σ.vars c.variable) ≡ Some k → (carry_in (carry_alu op) (Some c) σ ≡ Some k) × (writes_operand (carry_alu op) ≡ true)
+pub carry_asks : (op : BinOp) (c : Pinned) (k : Bool) (σ : over.State) → IsCarryOp op → truth (σ.vars c.variable) ≡ Some k → (carry_in (carry_alu op) (Some c) σ ≡ Some k) × (writes_operand (carry_alu op) ≡ true)
 carry_asks o.Add c k σ h e = (e, refl)
 carry_asks o.Sub c k σ h e = (e, refl)
 carry_asks _ c k σ h e = absurd h

@@ -73,7 +73,7 @@ imul_ends frame m y at fl z σ left right sh nm reads shows = record {
       (shown y τ ++ [], rw (e, k) (rw (read_shown frame y z τ right k) (ap (λ u. Some (record { shown = shown y τ ++ []; division = []; state = with_flags (record { span = at; action = action.Imul z m y; flags = fl }) (low_product_answer z left right).flags u })) (same_some _ τ' f))), append_nil (shown y τ) ∙ shown_same σ τ y (same_right σ τ (is_var y) (found_by y) same) ∙ shows);
 }
 
-imul_by_step : (frame : Frame) (z : Size) (m : ℕ) (y : Arg) (i : ℤ) (at : Span) (fl : Flags) (a : ℕ) (σ τ : over.State) → value_of frame y z σ ≡ Some a → put frame (arg.Var m) z (low_product_answer z (residue z i) a).value σ ≡ Some τ
+pub imul_by_step : (frame : Frame) (z : Size) (m : ℕ) (y : Arg) (i : ℤ) (at : Span) (fl : Flags) (a : ℕ) (σ τ : over.State) → value_of frame y z σ ≡ Some a → put frame (arg.Var m) z (low_product_answer z (residue z i) a).value σ ≡ Some τ
     → step frame (record { span = at; action = action.ImulBy z m y i; flags = fl }) σ
     ≡ Some (record { shown = shown y σ ++ []; division = []; state = with_flags (record { span = at; action = action.ImulBy z m y i; flags = fl }) (low_product_answer z (residue z i) a).flags τ })
 imul_by_step frame z m y i at fl a σ τ e f = rw e (rw (read_shown frame y z σ a e) (ap (λ u. Some (record { shown = shown y σ ++ []; division = []; state = with_flags (record { span = at; action = action.ImulBy z m y i; flags = fl }) (low_product_answer z (residue z i) a).flags u })) (same_some _ τ f)))

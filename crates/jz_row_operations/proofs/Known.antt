@@ -1,21 +1,17 @@
--- The operations of statements do what the statements do.
-use Rattle.std.proofs.Common.{◌≡◌, ℕ, zero, suc, ◌+◌, Bool, true, false, List, [], ◌∷◌, ◌++◌, Option, Some, None, refl, sym, ap, ◌∙◌, subst, arith, inr}
-use Rattle.std.specs.Prelude.{⊤}
+-- The operations of a statement do what the statement does, and a test answers as that of the source.
+use Rattle.std.proofs.Common.{◌≡◌, ℕ, ◌+◌, Bool, true, List, [], ◌++◌, Some, None, refl, sym, ap, ◌∙◌, subst, arith}
 use Rattle.std.proofs.lemmas.List.Elements.{All-nil}
 use Rattle.jz_io.specs.declared.span.Span.{Span}
 use Rattle.jz_tree.specs.declared.expr.Expr.{Expr}
 use Rattle.jz_tree.specs.declared.expr.Expr.TheVariants as expr
 use Rattle.jz_tree.specs.declared.expr.Expr.TheOpen.{Expr-F}
 use Rattle.jz_tree.specs.declared.expr.Expr.TheFolds.{fold-roll-Expr}
-use Rattle.jz_tree.specs.declared.expr.Var.{Var}
 use Rattle.jz_runs.specs.Rules.{went}
-use Rattle.jz_meaning.specs.declared.access.Kind.{Kind}
-use Rattle.jz_meaning.specs.declared.access.Kind.TheVariants as kind
 use Rattle.jz_meaning.specs.Attempts.{Evaluation, and_then}
-use Rattle.jz_meaning.specs.States.{Value, boolean, Key, same_key, Store, put, State}
-use Rattle.jz_meaning.specs.Values.{Ref, key_of, cell_key, ref_of, evaluated, expr_step, ty_step, access_step, decl_step, var_step}
+use Rattle.jz_meaning.specs.States.{boolean, State}
+use Rattle.jz_meaning.specs.Values.{evaluated, expr_step, ty_step, access_step, decl_step, var_step}
 use Rattle.jz_meaning.specs.Assignments.{truth, bool_in}
-use Rattle.jz_meaning.specs.Statements.{Operation, Condition, unset, assign, instruction, meaningless, no_cells, without, all_unset, quiets, source}
+use Rattle.jz_meaning.specs.Statements.{Operation, Condition}
 use Rattle.jz_meaning.specs.Statements as statements
 use Rattle.jz_operations.specs.declared.operation.Condition.{Condition as Flags}
 use Rattle.jz_operations.specs.declared.operation.Condition.TheVariants as condition
@@ -24,44 +20,17 @@ use Rattle.jz_operations.specs.Values as over
 use Rattle.jz_operations.specs.Rows.{Frame, Done, step, holds_in}
 use Rattle.jz_placing.specs.Variables.{Asked, asks, numbers_of, tests as asked, settled, variables}
 use Rattle.jz_change.specs.declared.change.Numbers.{Numbers}
-use Rattle.jz_change.specs.Changes.{numbers_in}
-use Rattle.jz_change.specs.Fitting.{HasNumber, HasThese}
-use Rattle.jz_pass.specs.Operations.{DoAll, do_none}
-use Rattle.jz_pass.specs.Unrolling.{IsKnown}
+use Rattle.jz_change.specs.Fitting.{HasNumber}
+use Rattle.jz_pass.specs.Operations.{DoAll}
 use Rattle.jz_homes.specs.Homes.{Homes, IsHoming, IsRelated}
 use Rattle.jz_homes.specs.Operands.{Leaks, shown_of, count_of, IsCounted}
 use Rattle.jz_homes.proofs.Parts.{went_same}
-use Rattle.jz_row_operations.specs.Lowering.{Lowers, sets, sets_if, LowersTest, tests, LowersLoopTest, tests_each, never_false, condition_shown, lowering}
+use Rattle.jz_row_operations.specs.Lowering.{Lowers, sets, sets_if, LowersTest, tests, LowersLoopTest, tests_each, never_false, condition_shown}
+use Rattle.jz_row_operations.specs.Keeping.{IsAnswered}
 use Rattle.jz_row_operations.proofs.Items.{IsItem, AreItems, item, both_placed, first_placed, placed_behind, counted_length}
 use Rattle.jz_row_operations.proofs.Runs.{does_all}
 use Rattle.jz_row_operations.proofs.Moves.{append_nil}
 use Rattle.jz_row_operations.proofs.Lowered.{sets_goes, sets_if_goes, compared_goes}
-
--- ---- marks: what is unset may still be there
-put_less : (b : Bool) (store : Store) (key k : Key) (v : Value) → same_key key k ≡ b → put store key None k ≡ Some v → store k ≡ Some v
-put_less true store key k v e h = absurd (let f : ◌≡◌ {A = Option Value} None (Some v) = rw e at h in cc)
-put_less false store key k v e h = rw e at h
-
-no_cells_less : (n : ℕ) (x : Ref) (store : Store) (k : Key) (v : Value) → no_cells n x store k ≡ Some v → store k ≡ Some v
-no_cells_less zero x store k v e = e
-no_cells_less (suc n) x store k v e = no_cells_less n x store k v (put_less (same_key (cell_key x n) k) (no_cells n x store) (cell_key x n) k v refl e)
-
-without_less : (d : Kind) (x : Ref) (store : Store) (k : Key) (v : Value) → without d x store k ≡ Some v → store k ≡ Some v
-without_less (kind.Array z n) x store k v e = no_cells_less n x store k v e
-without_less (kind.Word z) x store k v e = put_less (same_key (key_of x) k) store (key_of x) k v refl e
-without_less kind.Int x store k v e = put_less (same_key (key_of x) k) store (key_of x) k v refl e
-without_less kind.Bool x store k v e = put_less (same_key (key_of x) k) store (key_of x) k v refl e
-without_less kind.Undeclared x store k v e = put_less (same_key (key_of x) k) store (key_of x) k v refl e
-
-unset_less : (xs : List Var) (store : Store) (k : Key) (v : Value) → all_unset xs store k ≡ Some v → store k ≡ Some v
-unset_less [] store k v e = e
-unset_less (x ∷ xs) store k v e = without_less (ref_of x).kind (ref_of x) store k v (unset_less xs (without (ref_of x).kind (ref_of x) store) k v e)
-
-pub marks_keep : (home : Homes) (o : Operation) (s : State) (σ : over.State) → IsRelated home s σ → IsRelated home (quiets o s) σ
-marks_keep home (unset xs) s σ h = record { holds = λ k x v e f. h.holds k x v e (unset_less xs s.store k v f); memory = h.memory; bytes = h.bytes }
-marks_keep home (assign to o e c at) s σ h = h
-marks_keep home (instruction to n args at) s σ h = h
-marks_keep home (meaningless at) s σ h = h
 
 -- ---- tests
 asked_by : (frame : Frame) (o : Made) (c : Flags) (d : Done) (k : Bool) (σ : over.State) → step frame o σ ≡ Some d → holds_in c d.state ≡ Some k → asked frame (asks (Some o) c) σ ≡ went (numbers_of d) k
@@ -80,19 +49,13 @@ never_false_is here at e s ns z is run =
     (sym k.0, sym k.1)
 
 module _ (frame : Frame) (home : Homes) (homing : IsHoming frame home) where
-  -- a test that stays has the same answer
-  pub record TestGoes (a : Asked) (i : Numbers) (s : State) (σ : over.State) (ns : List ℕ) (z : Bool) : Type 0 where
-    pub has : HasThese ns i
-    pub answers : asked frame a σ ≡ went (numbers_in i ns) z
-    pub agrees : IsRelated home s (settled frame a σ)
-
   condition_item : (p q : Leaks) (f g ns : List ℕ) → ns ≡ f ++ g → IsCounted p f → IsCounted q g → IsItem ns (condition_shown p q 0) (shown_of p f ++ shown_of q g)
   condition_item p q f g ns e h k =
       let l = counted_length p f h in
       subst (λ x. IsItem x (condition_shown p q 0) (shown_of p f ++ shown_of q g)) (sym (e ∙ ap (λ x. f ++ x) (sym (append_nil g))))
       (item (both_placed (first_placed p f (g ++ []) h) (placed_behind f (0 + count_of p) (omega (arith, l)) q g [] k)))
 
-  pub test_goes : (c : Condition) (a : Asked) (i : Numbers) (s : State) (σ : over.State) (ns : List ℕ) (z : Bool) → LowersTest home c a i → IsRelated home s σ → bool_in c.at c.cond s ≡ went ns z → TestGoes a i s σ ns z
+  pub test_goes : (c : Condition) (a : Asked) (i : Numbers) (s : State) (σ : over.State) (ns : List ℕ) (z : Bool) → LowersTest home c a i → IsRelated home s σ → bool_in c.at c.cond s ≡ went ns z → IsAnswered frame home a i s σ ns z
   test_goes c a i s σ ns z (tests {compare} {c = k} {p} {q} h) related run =
       let u = compared_goes frame home homing s σ related c.at ns z h run in
       let t = u.tests in
@@ -103,7 +66,7 @@ module _ (frame : Frame) (home : Homes) (homing : IsHoming frame home) where
         agrees = subst (IsRelated home s) (sym (settled_by frame compare (condition.Cc k) t.done σ t.steps)) t.agrees';
       }
 
-  pub loop_test_goes : (c : Condition) (a : Asked) (i : Numbers) (s : State) (σ : over.State) (ns : List ℕ) (z : Bool) → LowersLoopTest home c a i → IsRelated home s σ → bool_in c.at c.cond s ≡ went ns z → TestGoes a i s σ ns z
+  pub loop_test_goes : (c : Condition) (a : Asked) (i : Numbers) (s : State) (σ : over.State) (ns : List ℕ) (z : Bool) → LowersLoopTest home c a i → IsRelated home s σ → bool_in c.at c.cond s ≡ went ns z → IsAnswered frame home a i s σ ns z
   loop_test_goes c a i s σ ns z (tests_each h) related run = test_goes c a i s σ ns z h related run
   loop_test_goes c a i s σ ns z (never_false here e) related run =
       let k = never_false_is here c.at c.cond s ns z e run in
@@ -118,26 +81,3 @@ module _ (frame : Frame) (home : Homes) (homing : IsHoming frame home) where
   op_goes o os items s t σ ns (sets_if {x} {at = at} z wide kind' h ie ni cmp can) related run =
       let g = sets_if_goes frame home homing s σ related x at z t ns kind' h ie cmp run in
       (g.goes.ran.state, does_all frame ns os items σ g.goes.ran g.goes.goes (subst (AreItems ns items) (sym g.goes.shows) g.are), g.goes.agrees)
-
-  pub no_operations : (ns : List ℕ) (os : List Made) (items : List Numbers) (σ : over.State) → os ≡ [] → items ≡ [] → DoAll (variables frame) ns os items σ σ
-  no_operations ns os items σ e f = subst (λ x. DoAll (variables frame) ns x items σ σ) (sym e) (subst (λ y. DoAll (variables frame) ns [] y σ σ) (sym f) do_none)
-
-  abbrev pub lowering_known : IsKnown source (variables frame) (lowering home)
-  lowering_known = record {
-    Relates = λ k s σ. IsRelated home s σ;
-    Fails = λ w w2. ⊤;
-    Exact = ⊥;
-    settles = λ w w2. inr tt;
-    less_so = λ k0 k s σ l h. h;
-    op_went = λ o k k1 os items s t σ ns l h run. op_goes o os items s t σ ns l h run;
-    op_stuck = λ o k k1 os items s σ w x l h run. absurd x;
-    quiet_so = λ o k k1 o2 s σ l h. marks_keep home o s σ h;
-    test_went = λ c k os items a i s σ ns z l h run. let g = test_goes c a i s σ ns z l.2 h run in (σ, no_operations ns os items σ l.0 l.1, g.has, g.answers, g.agrees);
-    test_stuck = λ c k os items a i s σ w x l h run. absurd x;
-    loop_test_went = λ c k os items a i s σ ns z l h run. let g = loop_test_goes c a i s σ ns z l.2 h run in (σ, no_operations ns os items σ l.0 l.1, g.has, g.answers, g.agrees);
-    loop_test_stuck = λ c k os items a i s σ w x l h run. absurd x;
-    constant_so = λ c k z s σ l. absurd l;
-    values_so = λ f k is s σ l. absurd l;
-    set_so = λ f i k0 k is s σ l. absurd l;
-    restore_so = λ f k k1 is s s1 σ σ1 l. absurd l;
-  }

@@ -17,5 +17,3 @@ pub mod Conditionals
 pub mod Lowered
 pub mod Known
 pub mod HasItems
-pub mod Marks
-pub mod Bodies

@@ -48,7 +48,7 @@ use Rattle.jz_row_operations.proofs.Compares.{not_not, size_not, compared_size, 
 use Rattle.jz_row_operations.proofs.Conditionals.{conditional_parts, conditional_steps}
 
 -- ---- operands that are no immediates
-right_not_imm : (x y : Arg) → NotImm y → NotBothImm x y
+pub right_not_imm : (x y : Arg) → NotImm y → NotBothImm x y
 right_not_imm (arg.Imm i) (arg.Imm j) n = n
 right_not_imm (arg.Imm i) (arg.Var v) n = tt
 right_not_imm (arg.Imm i) (arg.Mem m) n = tt
@@ -59,28 +59,28 @@ right_not_imm (arg.Mem m) y n = tt
 right_not_imm (arg.Cell c) y n = tt
 right_not_imm (arg.At r p) y n = tt
 
-left_not_imm : (x y : Arg) → NotImm x → NotBothImm x y
+pub left_not_imm : (x y : Arg) → NotImm x → NotBothImm x y
 left_not_imm (arg.Imm i) y n = absurd n
 left_not_imm (arg.Var v) y n = tt
 left_not_imm (arg.Mem m) y n = tt
 left_not_imm (arg.Cell c) y n = tt
 left_not_imm (arg.At r p) y n = tt
 
-word_form : (y : Arg) → NotImm y → (v : Value) → FormOf y v → FormOf (arg.Var 0) v
+pub word_form : (y : Arg) → NotImm y → (v : Value) → FormOf y v → FormOf (arg.Var 0) v
 word_form (arg.Imm i) n v f = absurd n
 word_form (arg.Var w) n v f = f
 word_form (arg.Mem m) n v f = f
 word_form (arg.Cell c) n v f = f
 word_form (arg.At r p) n v f = f
 
-one_run : (frame : Frame) (o : Operation) (d : Done) (σ : over.State) → step frame o σ ≡ Some d → runs frame (o ∷ []) σ ≡ Some (record { shown = numbers_of d ∷ []; state = d.state })
+pub one_run : (frame : Frame) (o : Operation) (d : Done) (σ : over.State) → step frame o σ ≡ Some d → runs frame (o ∷ []) σ ≡ Some (record { shown = numbers_of d ∷ []; state = d.state })
 one_run frame o d σ e = rw e refl
 
-two_runs : (frame : Frame) (o1 o2 : Operation) (d1 d2 : Done) (σ : over.State) → step frame o1 σ ≡ Some d1 → step frame o2 d1.state ≡ Some d2
+pub two_runs : (frame : Frame) (o1 o2 : Operation) (d1 d2 : Done) (σ : over.State) → step frame o1 σ ≡ Some d1 → step frame o2 d1.state ≡ Some d2
     → runs frame (o1 ∷ o2 ∷ []) σ ≡ Some (record { shown = numbers_of d1 ∷ numbers_of d2 ∷ []; state = d2.state })
 two_runs frame o1 o2 d1 d2 σ e f = rw e (rw f refl)
 
-pair_shown : {a b c d : List ℕ} → a ≡ b → c ≡ d → ◌≡◌ {A = List (List ℕ)} (a ∷ c ∷ []) (b ∷ d ∷ [])
+pub pair_shown : {a b c d : List ℕ} → a ≡ b → c ≡ d → ◌≡◌ {A = List (List ℕ)} (a ∷ c ∷ []) (b ∷ d ∷ [])
 pair_shown {b = b} {c = c} e f = ap (λ x. x ∷ c ∷ []) e ∙ ap (λ y. b ∷ y ∷ []) f
 
 module _ (frame : Frame) (home : Homes) (homing : IsHoming frame home) (s : State) (σ : over.State) (related : IsRelated home s σ) where
@@ -90,7 +90,7 @@ module _ (frame : Frame) (home : Homes) (homing : IsHoming frame home) (s : Stat
     pub goes : RunsAs frame home homing s σ related os t shown'
     pub are : AreItems ns items shown'
 
-  step_runs : {o : Operation} {t : State} {sh sh2 : List ℕ} → StepsAs frame home homing s σ related o t sh → sh ≡ sh2 → RunsAs frame home homing s σ related (o ∷ []) t (sh2 ∷ [])
+  pub step_runs : {o : Operation} {t : State} {sh sh2 : List ℕ} → StepsAs frame home homing s σ related o t sh → sh ≡ sh2 → RunsAs frame home homing s σ related (o ∷ []) t (sh2 ∷ [])
   step_runs {o} k e = record {
     ran = record { shown = numbers_of k.done ∷ []; state = k.done.state };
     goes = one_run frame o k.done σ k.steps;
@@ -213,7 +213,7 @@ module _ (frame : Frame) (home : Homes) (homing : IsHoming frame home) (s : Stat
       }
 
   -- ---- `r = o if c`
-  sized : (x : Var) (e : Expr) (z : Size) → (ref_of x).kind ≡ kind.Word z → option_or (left_sizes (lval.Var x ∷ [])) (own_size e) ≡ Some z
+  pub sized : (x : Var) (e : Expr) (z : Size) → (ref_of x).kind ≡ kind.Word z → option_or (left_sizes (lval.Var x ∷ [])) (own_size e) ≡ Some z
   sized x e z is = ap (λ k. option_or (option_or (size_of k) None) (own_size e)) is
 
   all_four : (a b f g c ns : List ℕ) → ns ≡ a ++ (b ++ c) → b ≡ f ++ g → ns ≡ a ++ (f ++ (g ++ c))

@@ -60,11 +60,11 @@ unfolding inverted one_answer
 not_gives z x v k ms u n (sized a) f e = let r = went_same [] ms _ u e in (sym r.0, sym r.1)
 not_gives z x v k ms u n (whole i) f e = absurd (no_integer x i f n)
 
-minus_small : (z : Size) (k : ℕ) → (one_answer one.Neg z k no_flags).value < modulus z
+pub minus_small : (z : Size) (k : ℕ) → (one_answer one.Neg z k no_flags).value < modulus z
 unfolding one_answer difference_answer
 minus_small z k = mod_below _ (modulus z) (some_words z)
 
-not_small : (z : Size) (k : ℕ) → k < modulus z → (one_answer one.Not z k no_flags).value < modulus z
+pub not_small : (z : Size) (k : ℕ) → k < modulus z → (one_answer one.Not z k no_flags).value < modulus z
 unfolding one_answer
 not_small z k h = omega (arith, h)
 

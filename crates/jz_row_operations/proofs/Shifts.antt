@@ -154,7 +154,7 @@ by_number op at here z n s x v k ms u h l nn (sized a) f small e =
 by_number op at here z n s x v k ms u h l nn (whole i) f small e = absurd (no_integer x i f nn)
 
 -- by a masked variable
-masked_is : (z : Size) (n : ℕ) → (alu_answer alu.And S8 n (residue S8 (pos (mask_of z))) false).value ≡ masked z n
+pub masked_is : (z : Size) (n : ℕ) → (alu_answer alu.And S8 n (residue S8 (pos (mask_of z))) false).value ≡ masked z n
 unfolding and_answer
 masked_is S8 n = and_mask n 5
 masked_is S16 n = and_mask n 5

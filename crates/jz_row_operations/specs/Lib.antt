@@ -2,4 +2,5 @@ pub mod Codes
 pub mod Rows
 pub mod Table
 pub mod Lowering
-pub mod Bodies
+pub mod Keeping
+pub mod Laws

@@ -1,5 +1,5 @@
 -- Which operations a statement has, and which of the numbers that it leaks each of them shows.
-use Rattle.std.specs.Prelude.{◌≡◌, ◌<◌, ◌≤◌, ℕ, ◌+◌, Bool, true, false, not, ◌&&◌, List, [], ◌∷◌, ◌++◌, All, Option, Some, None, ℤ, pos, ⊤}
+use Rattle.std.specs.Prelude.{◌≡◌, ◌<◌, ◌≤◌, ℕ, ◌+◌, Bool, true, false, not, ◌&&◌, List, [], ◌∷◌, ◌++◌, All, Option, Some, None, ℤ, pos}
 use Rattle.std.specs.Option.{option_or}
 use Rattle.jz_words.specs.declared.size.Size.{Size}
 use Rattle.jz_words.specs.declared.size.Size.TheVariants.{S8}
@@ -19,7 +19,7 @@ use Rattle.jz_meaning.specs.declared.access.Kind.TheVariants as kind
 use Rattle.jz_meaning.specs.Values.{key_of, ref_of, own_size}
 use Rattle.jz_meaning.specs.Assignments.{left_sizes, whole_of}
 use Rattle.jz_meaning.specs.Statements as source
-use Rattle.jz_meaning.specs.Statements.{Condition, Counter, assign}
+use Rattle.jz_meaning.specs.Statements.{Condition, assign}
 use Rattle.jz_operations.specs.declared.operation.Pinned.{Pinned}
 use Rattle.jz_operations.specs.declared.operation.Arg.{Arg}
 use Rattle.jz_operations.specs.declared.operation.Arg.TheVariants as arg
@@ -33,7 +33,6 @@ use Rattle.jz_change.specs.declared.change.Number.{Number}
 use Rattle.jz_change.specs.declared.change.Number.TheVariants.{Nth}
 use Rattle.jz_change.specs.declared.change.Numbers.{Numbers}
 use Rattle.jz_change.specs.declared.change.Numbers.TheVariants.{These}
-use Rattle.jz_pass.specs.Unrolling.{Knowing}
 use Rattle.jz_homes.specs.Homes.{Homes, in_register, in_flag}
 use Rattle.jz_homes.specs.Operands.{Leaks, silent, told, count_of, IsArg, IsDest}
 use Rattle.jz_row_operations.specs.Codes.{no_flag, plain, lasting}
@@ -192,18 +191,3 @@ pub data LowersLoopTest (home : Homes) (t : Condition) : Asked → Numbers → T
   never_false :
       (here : Span) → t.cond ≡ expr.Bool true here
       → LowersLoopTest home t always (These [])
-
--- ---- bodies
--- no operation stands before a test, no test of an `if` is constant, and no `for` is left
-abbrev pub lowering : Homes → Knowing source.Operation Condition Counter ⊤ Operation Asked
-lowering home = record {
-  Op = λ o k os items k1. Lowers home o os items;
-  Quiet = λ o k o2 k1. ⊤;
-  Test = λ t k os items asked i. (os ≡ []) × (items ≡ []) × LowersTest home t asked i;
-  LoopTest = λ t k os items asked i. (os ≡ []) × (items ≡ []) × LowersLoopTest home t asked i;
-  Constant = λ t k answer. ⊥;
-  Values = λ f k is. ⊥;
-  Less = λ k0 k. ⊤;
-  set = λ f i k. k;
-  restore = λ f k k1. k;
-}

@@ -1,12 +1,12 @@
 //! What operations of statements do.
 
-ghost use Rattle.jz_row_operations.specs.Bodies.{BodiesCarry, BodiesHaveCases};
+ghost use Rattle.jz_row_operations.specs.Laws.{RowsKeepRuns, TestsKeepRuns, RowsHaveItems};
 
-/// Beside each run of a body that isn't stuck its operations over variables run, for every number
-/// of turns: they end with as many turns left, in a related state, or are cut, and of the leaked
-/// numbers they show those that the change says. No operation is without a step, no flag is read
-/// that isn't set. What the change makes has an item for each operation and each test.
-pub fn lowering_keeps_runs()
-    ensures runs { BodiesCarry }
-    ensures cases { BodiesHaveCases }
+/// Where a statement isn't stuck its operations go through and end in a related state, and of the
+/// leaked numbers they show those of their items; a test answers as that of the source. No
+/// operation is without a step, no flag is read that isn't set.
+pub fn rows_keep_runs()
+    ensures statements { RowsKeepRuns }
+    ensures tests { TestsKeepRuns }
+    ensures items { RowsHaveItems }
 {}

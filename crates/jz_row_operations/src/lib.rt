@@ -4,4 +4,4 @@
 
 mod laws;
 
-pub use laws::lowering_keeps_runs;
+pub use laws::rows_keep_runs;

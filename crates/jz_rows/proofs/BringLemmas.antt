@@ -13,7 +13,7 @@ use Rattle.jz_row_operations.specs.Lowering.{numbers_from, both_shown}
 use Rattle.jz_operands.specs.declared.operands.Operand.{Operand}
 use Rattle.jz_operands.specs.TableHomes.{leaks_of}
 use Rattle.jz_rows.specs.Rows.{nth_of, item_of}
-use Rattle.jz_rows.specs.InnerRows.{IsBrought}
+use Rattle.jz_rows.specs.Found.{IsBrought}
 
 abbrev Way : Type 0
 Way = Option (List Action × Arg)

@@ -19,7 +19,7 @@ use Rattle.jz_one_row.proofs.Outs.{out_bin, out_bool, out_cast, out_neg, out_not
 use Rattle.jz_operands.specs.TableHomes.{homes_of}
 use Rattle.jz_operands.proofs.OperandRefusals.{never_bin, never_neg, never_not, never_cast, never_bool}
 use Rattle.jz_rows.specs.declared.targets.Target.{Target}
-use Rattle.jz_rows.specs.InnerRows.{Rule, Moves, Sums, Carries, Signs, Times, TimesBy, Shifts, ShiftsBy, Extends, Lowest, rule_of, NeverBy, NeverRow}
+use Rattle.jz_rows.specs.Found.{Rule, Moves, Sums, Carries, Signs, Times, TimesBy, Shifts, ShiftsBy, Extends, Lowest, rule_of, NeverBy, NeverRow}
 use Rattle.jz_rows.proofs.RowRules.{RowAt, r_moves, r_sums, r_carries, r_minus, r_not, r_times, r_times_by, r_shifts, r_shifts_by, r_extends, r_lowest, row_in, move_source}
 
 -- ---- operators

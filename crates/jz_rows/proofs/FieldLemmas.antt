@@ -10,6 +10,7 @@ use Rattle.jz_words.specs.Sizes.{bytes_of}
 use Rattle.x64_insn.specs.declared.types.Alu.{Alu}
 use Rattle.x64_insn.specs.declared.types.One.{One}
 use Rattle.x64_insn.specs.declared.types.Shift.{Shift}
+use Rattle.x64_insn.specs.declared.types.Wide.{Wide}
 use Rattle.x64_insn.specs.Table.{immediate_by}
 use Rattle.x64_insn.specs.Chosen.{fits_bytes, is_index_of, is_address, is_rm, is_register, are_alu_operands, are_mov_operands, is_extension, is_spelled}
 use Rattle.x64_insn.proofs.Immediates.{fits_within, within_fits}
@@ -131,6 +132,18 @@ extend_fields false S64 S64 v x h = extend_by false x S64 (low (action.Extend fa
 pub cmov_fields : (c : Condition) (z : Size) (v : ℕ) (x : Arg) → CanEncode (action.Cmov c z v x) → HasFields x
 unfolding is_spelled
 cmov_fields c z v x h = rm_fields x z (and_parts _ _ (low (action.Cmov c z v x) h)).1
+
+pub wide_fields : (w : Wide) (z : Size) (l h : Option Pinned) (x : Arg) → CanEncode (action.Wide w z l h x) → HasFields x
+unfolding is_spelled
+wide_fields w z l h x c = rm_fields x z (and_parts _ _ (low (action.Wide w z l h x) c)).1
+
+pub set_fields : (c : Condition) (x : Arg) → CanEncode (action.Set c x) → HasFields x
+unfolding is_spelled
+set_fields c x h = rm_fields x S8 (low (action.Set c x) h)
+
+pub lea_fields : (v : ℕ) (m : Address) → CanEncode (action.Lea v m) → HasFields (arg.Mem m)
+unfolding is_spelled
+lea_fields v m h = address_fields m (low (action.Lea v m) h)
 
 pub only_can : (a : Action) → All CanEncode (a ∷ []) → CanEncode a
 only_can a h = All-head CanEncode a [] h

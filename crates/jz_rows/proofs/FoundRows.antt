@@ -25,7 +25,7 @@ use Rattle.jz_operands.proofs.OperandLemmas.{size_one}
 use Rattle.jz_operands.proofs.SumLemmas.{for_found}
 use Rattle.jz_rows.specs.declared.row.Row.{Row}
 use Rattle.jz_rows.specs.declared.targets.Target.{Target}
-use Rattle.jz_rows.specs.InnerRows.{IsRow, Rule, Moves, Sums, Carries, Signs, Times, TimesBy, Shifts, ShiftsBy, Extends, Lowest, NeverBy, NeverRow}
+use Rattle.jz_rows.specs.Found.{IsRow, Rule, Moves, Sums, Carries, Signs, Times, TimesBy, Shifts, ShiftsBy, Extends, Lowest, NeverBy, NeverRow}
 use Rattle.jz_rows.proofs.RowRules.{FoundDest, silent_is, second_number, second_bin, other_operator, first_bin, other_inner, lowest_signed, other_cast}
 use Rattle.jz_rows.proofs.Dispatch.{operand_never, truth_never, minus_never, denial_never, cast_never, shift_never, sum_never, product_never}
 use Rattle.jz_rows.proofs.RowLemmas.{register_is, size_differs}

@@ -37,7 +37,7 @@ use Rattle.jz_rows.specs.declared.row.Row.{Row}
 use Rattle.jz_rows.specs.declared.row.Shown.{Shown}
 use Rattle.jz_rows.specs.declared.bringing.Brought.{Brought}
 use Rattle.jz_rows.specs.Rows.{nth_of, item_of, acts_of, items_of}
-use Rattle.jz_rows.specs.InnerRows.{IsBrought}
+use Rattle.jz_rows.specs.Found.{IsBrought}
 use Rattle.jz_rows.proofs.BringLemmas.{item_both, item_one}
 
 -- ---- operands

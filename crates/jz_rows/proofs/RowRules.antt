@@ -39,7 +39,7 @@ use Rattle.jz_operands.specs.TableHomes.{homes_of, leaks_of}
 use Rattle.jz_operands.specs.Refusals.{HasFields, NeverArg, NeverDest}
 use Rattle.jz_operands.proofs.OperandRefusals.{never_bin}
 use Rattle.jz_rows.specs.declared.targets.Target.{Target}
-use Rattle.jz_rows.specs.InnerRows.{Rule, Moves, Sums, Carries, Signs, Times, TimesBy, Shifts, ShiftsBy, Extends, Lowest, rule_of, NeverBy, NeverRow}
+use Rattle.jz_rows.specs.Found.{Rule, Moves, Sums, Carries, Signs, Times, TimesBy, Shifts, ShiftsBy, Extends, Lowest, rule_of, NeverBy, NeverRow}
 use Rattle.jz_rows.proofs.FieldLemmas.{alu_fields, mov_fields, one_fields, imul_fields, imul_by_fields, shift_fields, shift_by_fields, extend_fields, only_can, two_fields, one_operand}
 
 -- ---- rows by the outermost layer

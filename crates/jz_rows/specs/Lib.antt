@@ -1,4 +1,5 @@
 pub mod Rows
+pub mod Found
 pub mod InnerRows
 pub use Rattle.jz_operands.specs.TableHomes
 pub use Rattle.jz_operands.specs.Refusals

@@ -46,7 +46,7 @@ fn same_cell(a: Cell, b: Cell) -> bool
 }
 
 /// Whether both are one variable, one access or one cell.
-pub(crate) fn same_arg(a: Arg, b: Arg) -> bool
+pub fn same_arg(a: Arg, b: Arg) -> bool
     ensures { result ≡ table.same_arg a b }
 {
     match a {
@@ -76,7 +76,7 @@ pub(crate) fn same_arg(a: Arg, b: Arg) -> bool
     }
 }
 
-pub(crate) fn is_imm(operand: Arg) -> bool
+pub fn is_imm(operand: Arg) -> bool
     ensures { result ≡ table.is_imm operand }
 {
     match operand {
@@ -147,7 +147,7 @@ fn names(operand: Arg, variable: u32) -> bool
 }
 
 /// Whether it is a variable that stands nowhere in the other operand.
-pub(crate) fn is_free(operand: Arg, other: Arg) -> bool
+pub fn is_free(operand: Arg, other: Arg) -> bool
     ensures { result ≡ table.is_free operand other }
 {
     match operand {

@@ -7,8 +7,8 @@ ghost use Rattle.jz_tree.specs.declared.expr.Expr.{Expr as Tree};
 ghost use Rattle.jz_tree.specs.declared.expr.Expr.TheVariants as expr;
 ghost use Rattle.jz_row_operations.specs.Rows.{IsSign, mask_of as mask_at};
 ghost use Rattle.jz_rows.specs.Refusals.{FindsOr};
-ghost use Rattle.jz_rows.specs.InnerRows.{IsRow, NeverBy, NeverRow, Moves, Sums, Carries, Signs};
-ghost use Rattle.jz_rows.specs.InnerRows.{Times, TimesBy, Shifts, ShiftsBy, Extends, Lowest};
+ghost use Rattle.jz_rows.specs.Found.{IsRow, NeverBy, NeverRow, Moves, Sums, Carries, Signs};
+ghost use Rattle.jz_rows.specs.Found.{Times, TimesBy, Shifts, ShiftsBy, Extends, Lowest};
 ghost use Rattle.jz_words.specs.Readings.{fits_bytes};
 
 use crate::args::{are_imm, is_imm};
@@ -196,7 +196,8 @@ fn times_by_row(target: &Target<'_>, first: &Expr, second: &Expr) -> Option<Row>
     })
 }
 
-fn product_row(target: &Target<'_>, first: &Expr, second: &Expr) -> Option<Row>
+/// The row of a product of two operands.
+pub fn product_row(target: &Target<'_>, first: &Expr, second: &Expr) -> Option<Row>
     ensures { (at : Span) → let e = expr.Bin Mul first.now second.now at in
         FindsOr result (IsRow target.now e)
         (NeverBy Times target.now e × NeverBy TimesBy target.now e) }
@@ -404,7 +405,7 @@ fn operation_row(target: &Target<'_>, op: BinOp, first: &Expr, second: &Expr) ->
 }
 
 /// The row of an assignment of this right side.
-pub(crate) fn assignment_row(target: &Target<'_>, value: &Expr) -> Option<Row>
+pub fn assignment_row(target: &Target<'_>, value: &Expr) -> Option<Row>
     ensures { FindsOr result (IsRow target.now value.now) (NeverRow target.now value.now) }
 {
     match value {

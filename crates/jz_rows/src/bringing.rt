@@ -7,7 +7,7 @@ ghost use Rattle.jz_row_operations.specs.Lowering.{numbers_from};
 ghost use Rattle.jz_operands.specs.TableHomes.{leaks_of};
 ghost use Rattle.jz_rows.specs.Refusals.{FindsOr};
 ghost use Rattle.jz_rows.specs.Rows.{nth_of};
-ghost use Rattle.jz_rows.specs.InnerRows.{IsBrought};
+ghost use Rattle.jz_rows.specs.Found.{IsBrought};
 
 use crate::args::{is_free, same_arg};
 use crate::row::{Act, Shown};
@@ -17,20 +17,20 @@ use jz_tree::Size;
 
 /// The copy before an action, the second operand, and the numbers that the action shows.
 #[derive(Clone, Copy)]
-pub(crate) struct Brought {
-    pub(crate) before: Option<Act>,
-    pub(crate) second: Arg,
-    pub(crate) shown: Shown,
+pub struct Brought {
+    pub before: Option<Act>,
+    pub second: Arg,
+    pub shown: Shown,
 }
 
 /// Where there is no second operand.
-pub(crate) const NOTHING: Operand = Operand {
+pub const NOTHING: Operand = Operand {
     arg: Arg::Imm(0),
     leaks: Leaks::Silent,
 };
 
 /// The place of the number that is shown of a part, so many being leaked before it.
-pub(crate) fn told(leaks: Leaks, before: u64) -> Option<u64>
+pub fn told(leaks: Leaks, before: u64) -> Option<u64>
     ensures { nth_of result ≡ numbers_from (leaks_of leaks) before }
 {
     match leaks {
@@ -41,7 +41,7 @@ pub(crate) fn told(leaks: Leaks, before: u64) -> Option<u64>
 }
 
 /// How many numbers a part leaks.
-pub(crate) fn count(leaks: Leaks) -> u64
+pub fn count(leaks: Leaks) -> u64
     ensures is { result ≡ count_of (leaks_of leaks) }
     ensures most { result ≤ 1 }
 {
@@ -55,13 +55,7 @@ pub(crate) fn count(leaks: Leaks) -> u64
 /// The first operand is the destination; or the operands may be swapped, and the second one is; or
 /// the destination stands nowhere in the second one, and the first is copied to it.
 #[tactic(auto, using(crate::proofs::BringLemmas::in_place, crate::proofs::BringLemmas::swapped, crate::proofs::BringLemmas::copied))]
-pub(crate) fn bring(
-    swaps: bool,
-    size: Size,
-    to: Arg,
-    first: Operand,
-    second: Operand,
-) -> Option<Brought>
+pub fn bring(swaps: bool, size: Size, to: Arg, first: Operand, second: Operand) -> Option<Brought>
     ensures { FindsOr result (IsBrought swaps size to first second)
         (brought swaps size to first.arg second.arg ≡ None) }
 {

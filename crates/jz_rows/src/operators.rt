@@ -76,7 +76,7 @@ pub(crate) fn is_repeated(op: BinOp, inner: BinOp) -> bool
 }
 
 /// What a count is masked with.
-pub(crate) fn mask_of(size: Size) -> i128
+pub fn mask_of(size: Size) -> i128
     ensures { result ≡ pos (rows.mask_of size) }
 {
     match size {
@@ -88,7 +88,7 @@ pub(crate) fn mask_of(size: Size) -> i128
 }
 
 /// Whether a size has 16 bits or more.
-pub(crate) fn is_wide(size: Size) -> bool
+pub fn is_wide(size: Size) -> bool
     ensures yes { IsTrue result → IsWide size }
     ensures no { IsFalse result → IsWide size → ⊥ }
 {
@@ -109,7 +109,7 @@ pub(crate) fn is_below(size: Size, other: Size) -> bool
 }
 
 /// A count below the bits of a size.
-pub(crate) fn count_in(number: i128, size: Size) -> Option<u8>
+pub fn count_in(number: i128, size: Size) -> Option<u8>
     ensures { FindsOr result (λ n. (number ≡ pos n) × (n < bits_of size))
         ((n : ℕ) → number ≡ pos n → n < bits_of size → ⊥) }
 {

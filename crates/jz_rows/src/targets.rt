@@ -17,10 +17,10 @@ use jz_type_names::same_size;
 
 /// A left side with the size of its assignment, and the homes of variables.
 #[derive(Clone, Copy)]
-pub(crate) struct Target<'a> {
-    pub(crate) homes: &'a Homes,
-    pub(crate) size: Size,
-    pub(crate) to: &'a Lval,
+pub struct Target<'a> {
+    pub homes: &'a Homes,
+    pub size: Size,
+    pub to: &'a Lval,
 }
 
 /// The variable that an operand is.
@@ -61,7 +61,7 @@ pub(crate) fn number_in(found: Operand) -> Option<i64>
 
 impl Target<'_> {
     /// An operand of the size of the assignment.
-    pub(crate) fn operand(&self, e: &Expr) -> Option<Operand>
+    pub fn operand(&self, e: &Expr) -> Option<Operand>
         ensures { let home = homes_of self.now.homes.now in
             FindsOr result (λ x. IsArg home self.now.size e.now x.arg (leaks_of x.leaks))
             (NeverArg home self.now.size e.now) }
@@ -69,7 +69,7 @@ impl Target<'_> {
         operand_of(self.homes, self.size, e)
     }
 
-    pub(crate) fn destination(&self) -> Option<Operand>
+    pub fn destination(&self) -> Option<Operand>
         ensures { let home = homes_of self.now.homes.now in
             FindsOr result
             (λ x. IsDest home self.now.size self.now.to.now x.arg (leaks_of x.leaks))
@@ -80,7 +80,7 @@ impl Target<'_> {
 
     /// The variable that the left side is.
     #[tactic(auto, using(crate::proofs::RowLemmas::register_is))]
-    pub(crate) fn register(&self) -> Option<u32>
+    pub fn register(&self) -> Option<u32>
         ensures { let home = homes_of self.now.homes.now in
             FindsOr result (λ n. IsDest home self.now.size self.now.to.now (arg.Var n) silent)
             ((n : ℕ) → IsDest home self.now.size self.now.to.now (arg.Var n) silent → ⊥) }
@@ -92,14 +92,15 @@ impl Target<'_> {
     }
 }
 
-fn place_of(var: &Var) -> Span
+/// Where a variable stands in the text.
+pub fn place_of(var: &Var) -> Span
     ensures { result ≡ (ref_of var.now).span }
 {
     var.span
 }
 
 /// The variable of a flag, where the text names it.
-pub(crate) fn flag_in(homes: &Homes, var: &Var) -> Option<Pinned>
+pub fn flag_in(homes: &Homes, var: &Var) -> Option<Pinned>
     ensures { let home = homes_of homes.now (key_of (ref_of var.now)) in
         FindsOr result
         (λ p. (home ≡ Some (in_flag p.variable)) × (p.span ≡ (ref_of var.now).span))
@@ -116,7 +117,7 @@ pub(crate) fn flag_in(homes: &Homes, var: &Var) -> Option<Pinned>
 }
 
 /// The variable of a byte, where the text names it.
-pub(crate) fn byte_in(homes: &Homes, var: &Var) -> Option<Pinned>
+pub fn byte_in(homes: &Homes, var: &Var) -> Option<Pinned>
     ensures { let home = homes_of homes.now (key_of (ref_of var.now)) in
         FindsOr result
         (λ p. (home ≡ Some (in_register p.variable S8)) × (p.span ≡ (ref_of var.now).span))
@@ -137,7 +138,7 @@ pub(crate) fn byte_in(homes: &Homes, var: &Var) -> Option<Pinned>
 
 /// The variable of a word of this size.
 #[tactic(auto, using(crate::proofs::RowLemmas::word_at))]
-pub(crate) fn word_in(homes: &Homes, size: Size, var: &Var) -> Option<u32>
+pub fn word_in(homes: &Homes, size: Size, var: &Var) -> Option<u32>
     ensures { let home = homes_of homes.now (key_of (ref_of var.now)) in
         FindsOr result (λ n. home ≡ Some (in_register n size))
         ((n : ℕ) → home ≡ Some (in_register n size) → ⊥) }

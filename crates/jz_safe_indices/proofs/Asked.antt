@@ -7,6 +7,8 @@ use Rattle.std.proofs.lemmas.List.Elements.{All-nil, All-cons, All-append}
 use Rattle.jz_words.specs.declared.size.Size.{Size}
 use Rattle.jz_words.specs.declared.size.Size.TheVariants.{S64}
 use Rattle.jz_tree.specs.Span.{Span}
+use Rattle.jz_tree.specs.Spellings.{spelled}
+use Rattle.jz_tree.specs.declared.intrinsic.Instance.{Instance}
 use Rattle.jz_tree.specs.declared.expr.Expr.{Expr}
 use Rattle.jz_tree.specs.declared.expr.Access.{Access}
 use Rattle.jz_tree.specs.declared.expr.Var.{Var}
@@ -21,21 +23,22 @@ use Rattle.jz_meaning.specs.declared.value.Why.{Why}
 use Rattle.jz_meaning.specs.declared.value.Why.TheVariants.{Bounds}
 use Rattle.jz_meaning.specs.Values.{ref_of, own_size, left_wanted, right_wanted}
 use Rattle.jz_meaning.specs.Assignments.{left_sizes, last_left, whole_of}
+use Rattle.jz_meaning.specs.Intrinsics.{intrinsic_size}
 use Rattle.jz_meaning.specs.Statements.{Operation, assign, instruction, unset, meaningless, Condition, Block}
 use Rattle.jz_runs.specs.Trees.{done, op, quiet, choose, loop, each, call}
 use Rattle.jz_intervals.specs.declared.interval.Interval.{Interval}
 use Rattle.jz_terms.specs.Terms.{Place, Term, num, truth, var, cell, load, neg, inv, cast, bin, term_of, place_of, size_in}
 use Rattle.jz_terms.proofs.Bridge.{term_is, place_is}
 use Rattle.jz_facts.specs.Facts.{Facts, Given, at_entry}
-use Rattle.jz_facts.specs.Intervals.{interval}
+use Rattle.jz_facts.specs.Intervals.{size_or_64, interval}
 use Rattle.jz_facts.specs.Along.{fact_steps}
 use Rattle.jz_flow.specs.Alarms.{FirstOf, First, no_more}
-use Rattle.jz_alarms.specs.Conditions.{Target, named, Alarm, or_else, unless, bounds_of, asks, asks_expr, asks_if, asks_index, asks_left, asks_lefts, asks_old, asks_assign, asks_operation, asks_test}
+use Rattle.jz_alarms.specs.Conditions.{Target, named, Alarm, or_else, unless, bounds_of, asks, asks_expr, asks_if, asks_index, asks_left, asks_lefts, asks_old, asks_assign, asks_each, asks_division, asks_instruction, asks_operation, asks_test}
 use Rattle.jz_alarms.specs.Alarms.{fact_asks, IsFirstAlarm}
 use Rattle.jz_homes.specs.Homes.{Homes}
 use Rattle.jz_homes.specs.Sums.{sum_of}
 use Rattle.jz_item_names.proofs.Keys.{Layer, Proved, bare, by_layers}
-use Rattle.jz_lowering_cases.specs.Staying.{IsInside, left_cells, assigned_cells, OperationInside, TestInside, HasCellsInside}
+use Rattle.jz_lowering_cases.specs.Staying.{IsInside, left_cells, assigned_cells, instructed_cells, OperationInside, TestInside, HasCellsInside}
 use Rattle.jz_lowering_cases.proofs.Parts.{layer_cells, cells_at}
 use Rattle.jz_safe_indices.proofs.Constants.{not_above}
 
@@ -146,9 +149,23 @@ module _ (g : Given) (s : Facts) (home : Homes) where
       All-append (IsInside home) (flat_map left_cells to ++ cells_in w) (flat_map cells_in (option_to_list c))
       (All-append (IsInside home) (flat_map left_cells to) (cells_in w) (lefts_inside z to third.1) (expr_inside w z first.0)) (if_inside c second.0)
 
+  args_inside : (z : Option Size) (es : List Expr) → asks_each g s z es ≡ None → All (IsInside home) (flat_map cells_in es)
+  args_inside z [] e = All-nil (IsInside home)
+  args_inside z (a ∷ es) e =
+      let h = or_none (asks_expr g s z a) _ e in
+      All-append (IsInside home) (cells_in a) (flat_map cells_in es) (expr_inside a z h.0) (args_inside z es h.1)
+
+  instructed_inside : (n : Option Instance) (to : List Lval) (args : List Expr) (at : Span) → asks_instruction g s n to args at ≡ None → All (IsInside home) (instructed_cells n to args)
+  instructed_inside None to args at e = All-nil (IsInside home)
+  instructed_inside (Some i) to args at e =
+      let z = intrinsic_size i.name i.size to args in
+      let first = or_none (asks_each g s z args) _ e in
+      let second = or_none (asks_division g s i.name (size_or_64 z) args at) _ first.1 in
+      All-append (IsInside home) (flat_map left_cells to) (flat_map cells_in args) (lefts_inside z to second.1) (args_inside z args first.0)
+
   operation_inside : (o : Operation) → asks_operation g o s ≡ None → OperationInside home o
   operation_inside (assign to o e c at) h = assigned_inside to (whole_of (last_left to) o e) c h
-  operation_inside (instruction to n args at) h = All-nil (IsInside home)
+  operation_inside (instruction to n args at) h = instructed_inside (spelled n) to args at h
   operation_inside (unset vs) h = All-nil (IsInside home)
   operation_inside (meaningless at) h = All-nil (IsInside home)
 

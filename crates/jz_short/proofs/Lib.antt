@@ -1,1 +1,1 @@
-pub mod Twice
+pub mod Thrice

@@ -6,7 +6,7 @@ use Rattle.jz_placing.specs.Variables.{Body}
 use Rattle.jz_change.specs.Changes.{Change}
 use Rattle.jz_codable.specs.Ready.{parts_of}
 use Rattle.jz_homes.specs.Homes.{Homes}
-use Rattle.jz_row_operations.specs.Bodies.{IsLowered}
+use Rattle.jz_every_row.specs.Bodies.{IsLowered}
 
 -- how many statements a block has, those in branches and loops too; a mark is none
 abbrev pub statements_in : Block → ℕ
@@ -18,7 +18,7 @@ statements_in (loop q p c b r) = 1 + statements_in p + statements_in b + stateme
 statements_in (each f b r) = 1 + statements_in b + statements_in r
 statements_in (call c b r) = 1 + statements_in b + statements_in r
 
-abbrev pub BodiesAreTwiceAsLong : Type 0
-BodiesAreTwiceAsLong =
+abbrev pub BodiesAreThreeTimesAsLong : Type 0
+BodiesAreThreeTimesAsLong =
     (home : Homes) (b : Block) (u : Body) (k : Change)
-    → IsLowered home b u k → parts_of u ≤ 2 * statements_in b
+    → IsLowered home b u k → parts_of u ≤ 3 * statements_in b

@@ -3,4 +3,4 @@
 
 mod laws;
 
-pub use laws::bodies_are_twice_as_long;
+pub use laws::bodies_are_three_times_as_long;

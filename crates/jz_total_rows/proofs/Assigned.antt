@@ -31,7 +31,7 @@ use Rattle.jz_select.specs.Rows.{is_r, is_m, is_i, is_rm, is_rmi, is_same_place,
 use Rattle.jz_select.specs.Shapes.{itself}
 use Rattle.jz_judgement.specs.Places as place
 use Rattle.jz_judgement.specs.HasType as judged
-use Rattle.jz_judgement.specs.HasType.{value, left, result, HasType, Types, Operates, Says}
+use Rattle.jz_judgement.specs.HasType.{value, HasType, Operates}
 use Rattle.jz_row_laws.proofs.Booleans.{or_parts, or_left}
 use Rattle.jz_row_laws.proofs.Copied.{Matches}
 use Rattle.jz_stuck_runs.proofs.Classes.{rmi_no_truth}
@@ -53,7 +53,7 @@ use Rattle.jz_total_rows.proofs.InlineValues.{number_is_inline}
 use Rattle.jz_total_rows.proofs.Summed.{seen}
 use Rattle.jz_total_rows.proofs.Fits.{Fits}
 use Rattle.jz_total_rows.proofs.Stands as stands
-use Rattle.jz_total_rows.proofs.Stands.{Stands, is_variable, stands_r, stands_m, stands_i, stands_place, variable_of}
+use Rattle.jz_total_rows.proofs.Stands.{stands_i}
 use Rattle.jz_total_rows.proofs.Meets.{A, dest_itself, same_place, apart_place, masked_apart, operation_not_same}
 use Rattle.jz_total_rows.proofs.Bringing.{Beside}
 use Rattle.jz_total_rows.proofs.Operands.{of_size, OperandAs, number_fits, operand_there, LeftAs}

@@ -52,7 +52,7 @@ home_declared home v (a_flag n d k h) e = bool_declared (sym k ∙ e)
 home_declared home v (a_scalar z w d k h) e = word_declared z (sym k ∙ e)
 home_declared home v (an_array z n w d c) e = array_declared z n (sym c.0 ∙ e)
 
-home_counted : (home : Homes) (v : Var) → HasHome home v → IsCounted v
+pub home_counted : (home : Homes) (v : Var) → HasHome home v → IsCounted v
 home_counted home v x = decl_counts v (home_declared home v x) (out-Var v).decl refl
 
 -- ---- expressions

@@ -13,7 +13,6 @@ use Rattle.x64_insn.specs.declared.types.Alu.{Alu}
 use Rattle.x64_insn.specs.declared.types.One.{One}
 use Rattle.x64_insn.specs.declared.types.One.TheVariants as one
 use Rattle.x64_insn.specs.declared.types.Shift.{Shift}
-use Rattle.x64_insn.specs.declared.types.Cond.{Cond}
 use Rattle.x64_insn.specs.declared.types.Place.TheVariants as place
 use Rattle.x64_insn.specs.declared.types.Reg.{Reg}
 use Rattle.x64_insn.specs.declared.types.Reg.TheVariants as reg
@@ -27,7 +26,7 @@ use Rattle.jz_operations.specs.declared.operation.Address.{Address}
 use Rattle.jz_operations.specs.declared.operation.Arg.{Arg}
 use Rattle.jz_operations.specs.declared.operation.Arg.TheVariants as arg
 use Rattle.jz_operations.specs.declared.operation.Action.TheVariants as action
-use Rattle.jz_operations.specs.declared.operation.Condition.TheVariants as condition
+use Rattle.jz_operations.specs.declared.operation.Condition.{Condition}
 use Rattle.jz_operations.specs.Insns.{mem_of, slot_of, operand_of}
 use Rattle.jz_encodable.specs.Encodable.{is_spelled_at}
 use Rattle.jz_row_operations.specs.Rows.{IsWide}
@@ -165,7 +164,7 @@ alu_spelled d op z (arg.At r q) y c t p n f g = absurd (false≢true p)
 four_eight : (i : ℤ) → fits_bytes 4 i ≡ true → fits_bytes 8 i ≡ true
 four_eight i h = let w = fits_within 4 i h in let a = w.0 in let b = w.1 in within_fits 8 i (omega (arith, ints, a)) (omega (arith, ints, b))
 
-longer : (z : Size) (i : ℤ) (r : Reg) → fits_bytes (immediate_by z) i ≡ true → fits_bytes (mov_length z (operand.Reg r)) i ≡ true
+pub longer : (z : Size) (i : ℤ) (r : Reg) → fits_bytes (immediate_by z) i ≡ true → fits_bytes (mov_length z (operand.Reg r)) i ≡ true
 longer S8 i r h = h
 longer S16 i r h = h
 longer S32 i r h = h
@@ -240,7 +239,7 @@ imul_spelled d S16 v y w p f = one_spelled d one.Not S16 y p f
 imul_spelled d S32 v y w p f = one_spelled d one.Not S32 y p f
 imul_spelled d S64 v y w p f = one_spelled d one.Not S64 y p f
 
-pub cmov_spelled : (d : ℕ) (c : Cond) (z : Size) (v : ℕ) (y : Arg) → IsWide z → is_place y ≡ true → fit_at d z y ≡ true → is_spelled_at d (action.Cmov (condition.Cc c) z v y) ≡ true
+pub cmov_spelled : (d : ℕ) (c : Condition) (z : Size) (v : ℕ) (y : Arg) → IsWide z → is_place y ≡ true → fit_at d z y ≡ true → is_spelled_at d (action.Cmov c z v y) ≡ true
 unfolding is_spelled
 cmov_spelled d c S8 v y w p f = absurd w
 cmov_spelled d c S16 v y w p f = one_spelled d one.Not S16 y p f

@@ -18,6 +18,4 @@ pub mod RightSides
 pub mod Comparing
 pub mod Statements
 pub mod Whole
-pub mod Excluded
-pub mod Made
 pub mod Placed

@@ -27,11 +27,11 @@ use Rattle.jz_select.specs.Look.{look_of, terms_of, bin_inline}
 use Rattle.jz_select.specs.Operands.{var_class, class_if, cell_class, cell_of, mem_of, inline_or, masked_class, class_layer, class_of, dest_of}
 use Rattle.jz_select.specs.Rows.{is_rm, is_rmi, class_size}
 use Rattle.jz_judgement.specs.Places as place
-use Rattle.jz_judgement.specs.Places.{Goes, KindGoes, IsWordOf, WordKind, IsArrayOf, ArrayKind, TakesWord}
+use Rattle.jz_judgement.specs.Places.{Goes, KindGoes, IsWordOf, WordKind, IsArrayOf, TakesWord}
 use Rattle.jz_judgement.specs.HasType as judged
 use Rattle.jz_judgement.specs.HasType.{value, HasType, Types, Accesses, Says, LayerSays}
 use Rattle.jz_judgement.specs.Lefts as lefts
-use Rattle.jz_judgement.specs.Lefts.{IsNumber, Wants, Leaves, Holds}
+use Rattle.jz_judgement.specs.Lefts.{IsNumber, Wants, Holds}
 use Rattle.jz_run_laws.proofs.Sizes.{types_of}
 use Rattle.jz_row_laws.proofs.Booleans.{or_left}
 use Rattle.jz_row_laws.proofs.Fixed.{Layer}

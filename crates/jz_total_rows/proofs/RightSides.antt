@@ -119,7 +119,7 @@ module _ (frame : Frame) (home : Homes) (homing : IsHoming frame home) (z : Size
   abbrev pub IsWithin : Expr → Type 0
   IsWithin e = ((is_r (dest_of d) ≡ true) × IsNumber e) ⊎ IsKept z e
 
-  within_kept : (e : Expr) → is_inline e ≡ false → IsWithin e → IsKept z e
+  pub within_kept : (e : Expr) → is_inline e ≡ false → IsWithin e → IsKept z e
   within_kept e n (inl h) = absurd (false≢true (sym n ∙ number_is_inline e h.1))
   within_kept e n (inr h) = h
 
@@ -131,7 +131,7 @@ module _ (frame : Frame) (home : Homes) (homing : IsHoming frame home) (z : Size
       by_test false e = refl
 
   -- ---- moves
-  move_row : (e : Expr) (v : Value) → IsExpanded home e → HasType (value e) (place.word z) → IsWithin e → p1 (S (class_of e) v) ≡ true → RowFound home z d e
+  pub move_row : (e : Expr) (v : Value) → IsExpanded home e → HasType (value e) (place.word z) → IsWithin e → p1 (S (class_of e) v) ≡ true → RowFound home z d e
   move_row e v x t l h = by_limit l
     where
       parts : (is_rmi (class_of e) ≡ true) × (not (is_m (dest_of d) && is_m (class_of e)) ≡ true)
@@ -152,10 +152,10 @@ module _ (frame : Frame) (home : Homes) (homing : IsHoming frame home) (z : Size
           (encode (action.Mov z D.arg' O.arg')
           (λ c u. mov_spelled c z D.arg' O.arg' (stands_place D.stands rd) (kept_both D.stands O.stands parts.1) (fd c u) (f c u)))
 
-  alone_row : (e : Expr) → IsExpanded home e → HasType (value e) (place.word z) → IsWithin e → Matches (S (class_of e) values.Alone) → RowFound home z d e
+  pub alone_row : (e : Expr) → IsExpanded home e → HasType (value e) (place.word z) → IsWithin e → Matches (S (class_of e) values.Alone) → RowFound home z d e
   alone_row e x t l h = let P : Type 0 = RowFound home z d e in either P (p1 (S (class_of e) values.Alone)) false (move_row e values.Alone x t l) (none_more P) h
 
-  at_form : (e : Expr) (l : Layer) → out-Expr e ≡ l → Matches (S (class_of e) (value_layer (whichever A) d (out-Expr e))) → Matches (S (class_of e) (value_layer (whichever A) d l))
+  pub at_form : (e : Expr) (l : Layer) → out-Expr e ≡ l → Matches (S (class_of e) (value_layer (whichever A) d (out-Expr e))) → Matches (S (class_of e) (value_layer (whichever A) d l))
   at_form e l s h = subst (λ k. Matches (S (class_of e) (value_layer (whichever A) d k))) s h
 
   -- ---- signs
@@ -260,23 +260,23 @@ module _ (frame : Frame) (home : Homes) (homing : IsHoming frame home) (z : Size
 
   -- ---- an operation on two
   module _ (o : BinOp) (a b : Expr) (at : Span) (n : (is_inline a && is_inline b) ≡ false) (x : IsExpanded home a) (y : IsExpanded home b) (t : Operates o (value a) (value b) (place.word z)) (l : IsKept z (expr.Bin o a b at)) where
-    abbrev E : Expr
+    abbrev pub E : Expr
     E = expr.Bin o a b at
 
     abbrev P : Type 0
     P = RowFound home z d E
 
     -- it is no operand itself
-    no_move : (v : Value) → p1 (S (class_of E) v) ≡ true → ⊥
+    pub no_move : (v : Value) → p1 (S (class_of E) v) ≡ true → ⊥
     no_move v h = two_not home is_rmi refl refl refl o a b at n x y (and_parts (is_rmi (class_of E)) _ (and_parts (is_rm (dest_of d)) _ h).1).0
 
     no_alone : Matches (S (class_of E) values.Alone) → ⊥
     no_alone h = either ⊥ (p1 (S (class_of E) values.Alone)) false (no_move values.Alone) (none_more ⊥) h
 
-    limits : IsKept z a × ((if is_shift o then count_field (Some z) (seen (at_size z) b) else (seen (at_size z) b).operand) ≡ None)
+    pub limits : IsKept z a × ((if is_shift o then count_field (Some z) (seen (at_size z) b) else (seen (at_size z) b).operand) ≡ None)
     limits = two_kept (at_size z) o a b at n l
 
-    first_type : HasType (value a) (place.word z)
+    pub first_type : HasType (value a) (place.word z)
     first_type = first_by o (value a) (value b) (place.word z) z refl t
 
     size_there : OperandAs home z a → (left_size d ≡ Some z) ⊎ Says (value E) z → is_shift o ≡ true → option_or (class_size (dest_of d)) (class_size (class_of a)) ≡ Some z
@@ -400,7 +400,7 @@ module _ (frame : Frame) (home : Homes) (homing : IsHoming frame home) (z : Size
     bin_row s q false k h = operation_row s q h
 
   -- ---- `d = e`
-  operates_at : (o : BinOp) (a b : Expr) (at : Span) → Types (Expr-F.Bin o a b at) (place.word z) → Operates o (value a) (value b) (place.word z)
+  pub operates_at : (o : BinOp) (a b : Expr) (at : Span) → Types (Expr-F.Bin o a b at) (place.word z) → Operates o (value a) (value b) (place.word z)
   operates_at o a b at (judged.operation k) = k
 
   pub value_row : (e : Expr) → IsExpanded home e → HasType (value e) (place.word z) → IsWithin e → (left_size d ≡ Some z) ⊎ Says (value e) z → divides_layer (out-Expr e) ≡ false
@@ -442,10 +442,10 @@ module _ (frame : Frame) (home : Homes) (homing : IsHoming frame home) (z : Size
     abbrev pub here : Span
     here = left_span d
 
-    no_other : (v : Value) → p1 (S class.Other v) ≡ true → ⊥
+    pub no_other : (v : Value) → p1 (S class.Other v) ≡ true → ⊥
     no_other v h = false≢true (and_parts (is_rm (dest_of d)) false h).1
 
-    read : IsArg home z r D.arg' D.leaks
+    pub read : IsArg home z r D.arg' D.leaks
     read = left_read home z d D.arg' D.leaks r D.is er
 
     plain_update : Matches (S class.Other (values.Two o (itself d) (operand_of A d e))) → RowFound home z d (expr.Bin o r e here)

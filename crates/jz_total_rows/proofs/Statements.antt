@@ -37,21 +37,21 @@ use Rattle.jz_select.specs.Selected.{Row, rows, FirstMatches, Tells, IsSelected}
 use Rattle.jz_select.specs.Shapes.{whichever, value_layer, update_layer, assign_of, kind_layer, shape_of}
 use Rattle.jz_judgement.specs.Places as place
 use Rattle.jz_judgement.specs.HasType as judged
-use Rattle.jz_judgement.specs.HasType.{Term, value, left, result, HasType, Operates, Says}
+use Rattle.jz_judgement.specs.HasType.{Term, value, left, result, HasType, Says}
 use Rattle.jz_judgement.specs.Lefts as lefts
-use Rattle.jz_judgement.specs.Lefts.{IsBool, Wants, Leaves, Holds, Own, Takes, value_term, Values}
+use Rattle.jz_judgement.specs.Lefts.{IsBool, Wants, Holds, Own, Takes}
 use Rattle.jz_run_laws.proofs.Sizes.{operation_size}
 use Rattle.jz_row_laws.proofs.Booleans.{or_left, or_right}
 use Rattle.jz_row_laws.proofs.Copied.{Matches}
 use Rattle.jz_meaning.specs.Values.{size_of, own_size}
 use Rattle.jz_meaning.specs.Assignments as assignments
-use Rattle.jz_meaning.specs.Assignments.{left_size, left_sizes, as_expr, left_span, updated_layer, whole_of}
+use Rattle.jz_meaning.specs.Assignments.{left_size, as_expr, updated_layer}
 use Rattle.jz_homes.proofs.Parts.{access_size}
 use Rattle.jz_limits.proofs.Layers.{own_var}
 use Rattle.jz_operations.proofs.Somes.{same_some}
 use Rattle.jz_homes.specs.Homes.{Homes}
 use Rattle.jz_total_rows.specs.Expanded as expanded
-use Rattle.jz_total_rows.specs.Expanded.{HasHome, a_word, a_flag, a_scalar, an_array, IsExpanded, IsExpandedLeft}
+use Rattle.jz_total_rows.specs.Expanded.{HasHome, a_word, a_flag, a_scalar, an_array, IsExpandedLeft}
 use Rattle.jz_total_rows.proofs.Forms.{home_not_inline}
 use Rattle.jz_total_rows.proofs.OwnSizes.{own_cell, own_load, own_bin}
 use Rattle.jz_total_rows.proofs.Meets.{A}

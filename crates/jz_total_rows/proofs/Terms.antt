@@ -50,7 +50,7 @@ pub other_order : {a : ℕ} (p q : ℕ) → IsCount a (p + q) → IsCount a (q +
 other_order {a} p q c = subst (λ n. IsCount a n) (omega (arith)) c
 
 -- a count up to two is exact
-small_count : {a n : ℕ} → IsCount a n → a < 3 → n ≡ a
+pub small_count : {a n : ℕ} → IsCount a n → a < 3 → n ≡ a
 small_count (exact n l) m = refl
 small_count (more n l) m = absurd (omega (arith, m))
 
@@ -59,7 +59,7 @@ pub record HasAddress (t : Sum) : Type 0 where
   pub address : Address
   pub is : IsAddress t address
 
-factor_one : (k : ℕ) → (k ≡ 1) ⊎ (k ≡ 1 → ⊥)
+pub factor_one : (k : ℕ) → (k ≡ 1) ⊎ (k ≡ 1 → ⊥)
 factor_one k = by_test' (k == 1) refl
   where
     by_test' : (t : Bool) → (k == 1) ≡ t → (k ≡ 1) ⊎ (k ≡ 1 → ⊥)
@@ -73,7 +73,7 @@ swapped b j k i = by_factor (factor_one k)
     by_factor (inl e) = subst (λ m. HasAddress (sum_of ((j, m) ∷ (b, 1) ∷ []) i)) (sym e) (record { address = _; is = of_both j b 1 i })
     by_factor (inr n) = record { address = _; is = of_swapped b j k i n }
 
-address_terms : (ts : List (ℕ × ℕ)) (p s : ℕ) (i : ℤ) → Counted ts p s → s ≤ 1 → p + s ≤ 2 → 1 ≤ p → HasAddress (sum_of ts i)
+pub address_terms : (ts : List (ℕ × ℕ)) (p s : ℕ) (i : ℤ) → Counted ts p s → s ≤ 1 → p + s ≤ 2 → 1 ≤ p → HasAddress (sum_of ts i)
 address_terms ts p s i none l m n = absurd (omega (arith, n))
 address_terms ts p s i (plain b none) l m n = record { address = _; is = of_base b i }
 address_terms ts p s i (plain b (plain j none)) l m n = record { address = _; is = of_both b j 1 i }

@@ -28,7 +28,7 @@ use Rattle.jz_select.specs.Rows.{is_r, is_i, is_rm, is_wide, class_size, p14}
 use Rattle.jz_select.specs.Shapes.{whichever, has_flags, is_test, assign_of}
 use Rattle.jz_judgement.specs.Places as place
 use Rattle.jz_judgement.specs.HasType as judged
-use Rattle.jz_judgement.specs.HasType.{Term, value, left, result, HasType, Operates, Says}
+use Rattle.jz_judgement.specs.HasType.{value, left, result, HasType, Operates, Says}
 use Rattle.jz_judgement.specs.Lefts as lefts
 use Rattle.jz_judgement.specs.Lefts.{Takes, value_term, Values}
 use Rattle.jz_run_laws.proofs.Sizes.{right_type}
@@ -45,25 +45,27 @@ use Rattle.jz_limits.specs.declared.operands.Role.TheVariants as role
 use Rattle.jz_limits.specs.Values.{no_numbers, is_int, only_int}
 use Rattle.jz_limits.specs.Asked.{told, Parts, in_kinds, is_count, left_access, to_register, is_free, value_role, value_as, asked_as, asked_if, left_parts, value_parts, assigned_parts, asked, asked_condition, size_compared}
 use Rattle.jz_limits.specs.InnerLooked as found
-use Rattle.jz_limits.specs.InnerLooked.{Seen, if_not, count_field}
+use Rattle.jz_limits.specs.InnerLooked.{Seen, count_field}
 use Rattle.jz_limits.proofs.Layers.{inline_var, look_bool, count_is}
 use Rattle.jz_operations.specs.declared.operation.Arg.{Arg}
+use Rattle.jz_operations.specs.declared.operation.Arg.TheVariants as arg
 use Rattle.jz_operations.specs.declared.operation.Action.TheVariants as action
 use Rattle.jz_operations.specs.declared.operation.Condition.TheVariants as conditions
 use Rattle.jz_operations.specs.Rows.{Frame}
 use Rattle.jz_homes.specs.Homes.{Homes, IsHoming, in_register}
-use Rattle.jz_homes.specs.Operands.{Leaks, IsDest, to_word, to_scalar, to_cell, to_memory}
+use Rattle.jz_homes.specs.Operands.{Leaks, IsArg, IsDest, to_word, to_scalar, to_cell, to_memory}
 use Rattle.jz_row_operations.specs.Codes.{no_flag, lasting}
+use Rattle.jz_row_operations.specs.Rows.{IsWide, NotImm}
 use Rattle.jz_row_operations.specs.Lowering.{sets, sets_if, tests, tests_each, never_false}
 use Rattle.jz_total_rows.specs.Expanded as expanded
 use Rattle.jz_total_rows.specs.Expanded.{HasHome, a_word, a_flag, a_scalar, an_array, IsExpanded, a_number, a_truth, a_variable, a_cell, a_load, a_minus, a_denial, a_cast, of_two, IsExpandedLeft}
 use Rattle.jz_total_rows.specs.Covered as covered
-use Rattle.jz_total_rows.specs.Covered.{divides_layer, is_quotient, IsComparison, IsCovered}
-use Rattle.jz_total_rows.specs.Laws.{IsReadyAssign, HasOperations, AssignmentsHaveOperations, TestsHaveOperations, LoopTestsHaveOperations}
+use Rattle.jz_total_rows.specs.Covered.{divides_layer, IsComparison, IsCovered}
+use Rattle.jz_total_rows.specs.Laws.{IsReadyAssign, HasRowOperations, AssignmentsHaveOperations, TestsHaveOperations, LoopTestsHaveOperations}
 use Rattle.jz_total_rows.proofs.Forms.{home_not_inline, minus_inline, denial_inline, cast_inline, two_inline, cell_inline, load_inline}
 use Rattle.jz_total_rows.proofs.InlineValues.{IsNumber, IsTruth, condition_truth}
 use Rattle.jz_total_rows.proofs.Summed.{seen}
-use Rattle.jz_total_rows.proofs.Fits.{Fits, cmov_spelled}
+use Rattle.jz_total_rows.proofs.Fits.{is_place, Fits, cmov_spelled}
 use Rattle.jz_total_rows.proofs.Stands.{is_variable, stands_place, variable_of}
 use Rattle.jz_total_rows.proofs.Meets.{A}
 use Rattle.jz_total_rows.proofs.Bringing.{encode}
@@ -77,7 +79,7 @@ use Rattle.jz_total_rows.proofs.Comparing.{at_compared, compared_there}
 use Rattle.jz_total_rows.proofs.Statements.{assign_matches, assigned_rm, OwnSize, of_left, of_right, TypedLeft, typed_left, left_first, right_first, read_size, behind_says, updated_size}
 
 -- ---- inline right sides
-inline_is : (home : Homes) (e : Expr) → IsExpanded home e → is_inline e ≡ true → IsNumber e ⊎ IsTruth e
+pub inline_is : (home : Homes) (e : Expr) → IsExpanded home e → is_inline e ≡ true → IsNumber e ⊎ IsTruth e
 inline_is home e (a_number i at) h = inl (i, at, refl)
 inline_is home e (a_truth b at) h = inr (b, at, refl)
 inline_is home e (a_variable v x) h = absurd (false≢true (sym (inline_var v ∙ home_not_inline home v x) ∙ h))
@@ -111,7 +113,7 @@ to_register_is home d (expanded.to_cell v i x y) h = absurd (no_register_array h
 to_register_is home d (expanded.to_memory a x) h = absurd (false≢true h)
 
 -- no left side is an inline integer
-no_target : (home : Homes) (d : Lval) → IsExpandedLeft home d → only_int d ≡ None
+pub no_target : (home : Homes) (d : Lval) → IsExpandedLeft home d → only_int d ≡ None
 no_target home d (expanded.to_nothing at) = refl
 no_target home d (expanded.to_cell v i x y) = refl
 no_target home d (expanded.to_memory a x) = refl
@@ -128,10 +130,10 @@ no_target home d (expanded.to_variable v x) = by_home x
     by_home (an_array z n w d c) = if_int (is_int (ref_of v).kind) (ap is_int c.0)
 
 -- ---- fields
-fields_none : (p : Parts) → in_kinds p ≡ [] → p.fields ≡ []
+pub fields_none : (p : Parts) → in_kinds p ≡ [] → p.fields ≡ []
 fields_none p h = (both_nothing p.ranges p.fields (both_nothing p.widths (p.ranges ++ p.fields) h).1).1
 
-first_none : (ls : List Limit) → ls ≡ [] → found.first ls ≡ None
+pub first_none : (ls : List Limit) → ls ≡ [] → found.first ls ≡ None
 first_none ls h = ap found.first h
 
 left_none : (d : Option Expr) → (asked_if no_numbers role.Operand None d).fields ≡ [] → left_operand d ≡ None
@@ -144,7 +146,7 @@ pub record FieldsKept (d : Lval) (o : Option BinOp) (e : Expr) (c : Option Expr)
   pub right : (value_parts no_numbers (Some d) (left_sizes (d ∷ [])) o e).fields ≡ []
   pub condition : (asked_if no_numbers role.Test None c).fields ≡ []
 
-fields_kept : (home : Homes) (d : Lval) (o : Option BinOp) (e : Expr) (c : Option Expr) (at : Span) → IsExpandedLeft home d → asked no_numbers (assign (d ∷ []) o e c at) ≡ [] → FieldsKept d o e c
+pub fields_kept : (home : Homes) (d : Lval) (o : Option BinOp) (e : Expr) (c : Option Expr) (at : Span) → IsExpandedLeft home d → asked no_numbers (assign (d ∷ []) o e c at) ≡ [] → FieldsKept d o e c
 fields_kept home d o e c at x h =
     let p = subst (λ t. in_kinds (assigned_parts no_numbers t (d ∷ []) o e c) ≡ []) (no_target home d x) h in
     let f = fields_none (assigned_parts no_numbers None (d ∷ []) o e c) p in
@@ -157,7 +159,7 @@ fields_kept home d o e c at x h =
     }
 
 -- what is asked of a condition that is compared
-fields_condition : (home : Homes) (c : Expr) → IsExpanded home c → has_flags c ≡ true → (asked_as no_numbers role.Test None c).fields ≡ [] → (seen (at_compared c) c).operand ≡ None
+pub fields_condition : (home : Homes) (c : Expr) → IsExpanded home c → has_flags c ≡ true → (asked_as no_numbers role.Test None c).fields ≡ [] → (seen (at_compared c) c).operand ≡ None
 fields_condition home c x h fields = first_none _ (by_inline (is_inline c) refl)
   where
     by_inline : (b : Bool) → is_inline c ≡ b → (told no_numbers c).operands (size_compared c) ≡ []
@@ -169,25 +171,39 @@ fields_condition home c x h fields = first_none _ (by_inline (is_inline c) refl)
         no_value (inr n) = false≢true (sym (ap has_flags n.2 ∙ (flags_out (expr.Bool n.0 n.1) ∙ ap flags_layer (out_bool n.0 n.1))) ∙ h)
 
 -- ---- `d = e`
-free_or : (b : Bool) (z : Option Size) (r : Role) (e : Expr) → (value_as no_numbers b r z e).fields ≡ [] → b ≡ false → (asked_as no_numbers r z e).fields ≡ []
+pub free_or : (b : Bool) (z : Option Size) (r : Role) (e : Expr) → (value_as no_numbers b r z e).fields ≡ [] → b ≡ false → (asked_as no_numbers r z e).fields ≡ []
 free_or true z r e h n = absurd (true≢false n)
 free_or false z r e h n = h
 
-record IsRegister (home : Homes) (d : Lval) (z : Size) (b : Arg) : Type 0 where
+pub record IsRegister (home : Homes) (d : Lval) (z : Size) (b : Arg) : Type 0 where
   pub var : Var
   pub number : ℕ
+  pub arg_is : b ≡ arg.Var number
   pub left_is : d ≡ lval.Var var
   pub kind_is : (ref_of var).kind ≡ kind.Word z
   pub there : home (key_of (ref_of var)) ≡ Some (in_register number z)
 
-register_of : (home : Homes) (z : Size) (d : Lval) (b : Arg) (r : Leaks) → IsDest home z d b r → is_variable b ≡ true → IsRegister home d z b
-register_of home z d b r (to_word v n k h) e = record { var = v; number = n; left_is = refl; kind_is = k; there = h }
+-- `r = o if c`
+pub record IsChosen (home : Homes) (d : Lval) (e : Expr) : Type 0 where
+  pub size : Size
+  pub wide : IsWide size
+  pub arg' : Arg
+  pub leaks : Leaks
+  pub is : IsArg home size e arg' leaks
+  pub in_place : is_place arg' ≡ true
+  pub no_number : NotImm arg'
+  pub fits : Fits size arg'
+  pub dest : Arg
+  pub register : IsRegister home d size dest
+
+pub register_of : (home : Homes) (z : Size) (d : Lval) (b : Arg) (r : Leaks) → IsDest home z d b r → is_variable b ≡ true → IsRegister home d z b
+register_of home z d b r (to_word v n k h) e = record { var = v; number = n; arg_is = refl; left_is = refl; kind_is = k; there = h }
 register_of home z d b r (to_scalar v w k h) e = absurd (false≢true e)
 register_of home z d b r (to_cell v i n w t c j cells s k) e = absurd (false≢true e)
 register_of home z d b r (to_memory a t m k s j) e = absurd (false≢true e)
 
 module _ (frame : Frame) (home : Homes) (homing : IsHoming frame home) (d : Lval) (x : IsExpandedLeft home d) where
-  within_value : (e : Expr) (z : Size) → IsExpanded home e → (D : LeftAs home z d) (rd : is_rm (dest_of d) ≡ true) (fd : Fits z D.arg') → option_or (left_sizes (d ∷ [])) (own_size e) ≡ Some z
+  pub within_value : (e : Expr) (z : Size) → IsExpanded home e → (D : LeftAs home z d) (rd : is_rm (dest_of d) ≡ true) (fd : Fits z D.arg') → option_or (left_sizes (d ∷ [])) (own_size e) ≡ Some z
       → (value_parts no_numbers (Some d) (left_sizes (d ∷ [])) None e).fields ≡ [] → IsWithin frame home homing z d D rd fd e
   within_value e z y D rd fd s h = by_free (is_free (to_register (Some d)) None e) refl
     where
@@ -203,7 +219,7 @@ module _ (frame : Frame) (home : Homes) (homing : IsHoming frame home) (d : Lval
           (first_none _ (free_or (is_free (to_register (Some d)) None e) (option_or (left_sizes (d ∷ [])) (own_size e)) role.Operand e h k)))
 
   pub value_there : (e : Expr) (at : Span) (t : TypedLeft d (value e)) → IsExpanded home e → is_rm (dest_of d) ≡ true → divides_layer (out-Expr e) ≡ false → FieldsKept d None e None → Matches (assign_of (whichever A) None d None e)
-      → HasOperations home (assign (d ∷ []) None e None at)
+      → HasRowOperations home (assign (d ∷ []) None e None at)
   value_there e at t y r q f h =
       let z = t.size in
       let D = left_there home z d x t.holds r in
@@ -217,10 +233,10 @@ module _ (frame : Frame) (home : Homes) (homing : IsHoming frame home) (d : Lval
       size_by D (of_right n s) = (right_first (left_size d) t.size (own_size e) n (says_own home e (place.word t.size) t.size y t.typed s), inr s)
 
   -- ---- `d op= e`
-  operates_left : (o : BinOp) (e : Expr) (p : place.Place) → HasType (result o d e) p → Operates o (left d) (value e) p
+  pub operates_left : (o : BinOp) (e : Expr) (p : place.Place) → HasType (result o d e) p → Operates o (left d) (value e) p
   operates_left o e p (judged.updated k) = k
 
-  counted_kept : (z : Size) (o : BinOp) (e : Expr) → (asked_as no_numbers (value_role (Some o)) (Some z) e).fields ≡ []
+  pub counted_kept : (z : Size) (o : BinOp) (e : Expr) → (asked_as no_numbers (value_role (Some o)) (Some z) e).fields ≡ []
       → (if is_shift o then count_field (Some z) (seen (at_size z) e) else (seen (at_size z) e).operand) ≡ None
   counted_kept z o e h = by_shift (is_shift o) refl
     where
@@ -230,7 +246,7 @@ module _ (frame : Frame) (home : Homes) (homing : IsHoming frame home) (d : Lval
           ∙ first_none _ (sym (ap (λ b. (asked_as no_numbers (if b then role.Count else role.Operand) (Some z) e).fields) k) ∙ h)
       by_shift false k = first_none _ (sym (ap (λ b. (asked_as no_numbers (if b then role.Count else role.Operand) (Some z) e).fields) k) ∙ h)
 
-  left_expr : is_rm (dest_of d) ≡ true → (r : Expr) × (as_expr d ≡ Some r)
+  pub left_expr : is_rm (dest_of d) ≡ true → (r : Expr) × (as_expr d ≡ Some r)
   left_expr h = by_left d x h
     where
       by_left : (d : Lval) → IsExpandedLeft home d → is_rm (dest_of d) ≡ true → (r : Expr) × (as_expr d ≡ Some r)
@@ -240,7 +256,7 @@ module _ (frame : Frame) (home : Homes) (homing : IsHoming frame home) (d : Lval
       by_left d (expanded.to_memory a y) h = (expr.Load a, refl)
 
   pub update_there : (o : BinOp) (e : Expr) (at : Span) (t : TypedLeft d (result o d e)) → IsExpanded home e → is_rm (dest_of d) ≡ true → divides o ≡ false → FieldsKept d (Some o) e None → Matches (assign_of (whichever A) None d (Some o) e)
-      → HasOperations home (assign (d ∷ []) (Some o) e None at)
+      → HasRowOperations home (assign (d ∷ []) (Some o) e None at)
   update_there o e at t y r q f h =
       let z = t.size in
       let D = left_there home z d x t.holds r in
@@ -272,12 +288,13 @@ module _ (frame : Frame) (home : Homes) (homing : IsHoming frame home) (d : Lval
           (updated_size o r e (left_span d) t.size b.arith (read_size d r g ∙ n) (says_own home e u.0 t.size y u.1 b.says) (out-Expr e) refl)
 
   -- ---- `r = o if c`
-  chosen_only : (c : Bool) (e : Expr) → Matches (shapes.Conditional (dest_of d) (class_of e) c) → p14 (shapes.Conditional (dest_of d) (class_of e) c) ≡ true
+  pub chosen_only : (c : Bool) (e : Expr) → Matches (shapes.Conditional (dest_of d) (class_of e) c) → p14 (shapes.Conditional (dest_of d) (class_of e) c) ≡ true
   chosen_only c e h = let P : Type 0 = p14 (shapes.Conditional (dest_of d) (class_of e) c) ≡ true in either P (p14 (shapes.Conditional (dest_of d) (class_of e) c)) false (λ i. i) (none_more P) h
 
-  pub chosen_there : (e k : Expr) (at : Span) (t : TypedLeft d (value e)) → IsExpanded home e → IsExpanded home k → HasType (value k) place.truth → IsComparison k → is_rm (dest_of d) ≡ true → FieldsKept d None e (Some k)
-      → p14 (shapes.Conditional (dest_of d) (class_of e) (has_flags k)) ≡ true → HasOperations home (assign (d ∷ []) None e (Some k) at)
-  chosen_there e k at t y u v c r f h =
+  -- the register, its operand, and that the condition is one of an instruction
+  pub chosen_parts : (e k : Expr) (t : TypedLeft d (value e)) → IsExpanded home e → is_rm (dest_of d) ≡ true → FieldsKept d None e (Some k)
+      → p14 (shapes.Conditional (dest_of d) (class_of e) (has_flags k)) ≡ true → IsChosen home d e × (has_flags k ≡ true)
+  chosen_parts e k t y r f h =
       let z = t.size in
       let p = and_parts (is_r (dest_of d)) _ h in
       let q = and_parts (is_wide (class_size (dest_of d))) _ p.1 in
@@ -286,15 +303,20 @@ module _ (frame : Frame) (home : Homes) (homing : IsHoming frame home) (d : Lval
       let b = variable_of D.stands p.0 in
       let g = register_of home z d D.arg' D.leaks D.is (ap is_variable b.1) in
       let O = operand_there home z (place.word z) e of_size y t.typed (or_left (is_rm (class_of e)) (is_i (class_of e)) w.0) in
-      let m = stands_place O.stands w.0 in
-      let l = O.fits None (operand_kept z w.0 (D.class_own) (size_by D t.own) f.right) in
-      let K = compared_there home at k u v w.1 c (fields_condition home k u w.1 f.condition) in
-      let i = wide_of (class_size (dest_of d)) z D.sized q.0 in
-      subst (λ d. HasOperations home (assign (d ∷ []) None e (Some k) at)) (sym g.left_is) (
-        _,
-        _,
-        sets_if z i g.kind_is g.there O.is (not_imm O.arg' (place_not_imm O.arg' m)) K.is
-            (encode (action.Cmov (conditions.Cc K.cond) z g.number O.arg') (λ a b. cmov_spelled a K.cond z g.number O.arg' i m (l a b))),
+      let m = stands_place O.stands w.0 in (
+        record {
+          size = z;
+          dest = D.arg';
+          register = g;
+          wide = wide_of (class_size (dest_of d)) z D.sized q.0;
+          arg' = O.arg';
+          leaks = O.leaks;
+          is = O.is;
+          in_place = m;
+          no_number = not_imm O.arg' (place_not_imm O.arg' m);
+          fits = O.fits None (operand_kept z w.0 (D.class_own) (size_by D t.own) f.right);
+        },
+        w.1,
       )
     where
       size_by : (D : LeftAs home t.size d) → OwnSize d (value e) t.size → option_or (left_sizes (d ∷ [])) (own_size e) ≡ Some t.size
@@ -322,14 +344,27 @@ module _ (frame : Frame) (home : Homes) (homing : IsHoming frame home) (d : Lval
           (first_none _
           (free_or (is_free (to_register (Some d)) None e) (option_or (left_sizes (d ∷ [])) (own_size e)) role.Operand e f (and_false (to_register (Some d)) (is_inline e) (not_inline h))))
 
+  pub chosen_there : (e k : Expr) (at : Span) (t : TypedLeft d (value e)) → IsExpanded home e → IsExpanded home k → HasType (value k) place.truth → IsComparison k → is_rm (dest_of d) ≡ true → FieldsKept d None e (Some k)
+      → p14 (shapes.Conditional (dest_of d) (class_of e) (has_flags k)) ≡ true → HasRowOperations home (assign (d ∷ []) None e (Some k) at)
+  chosen_there e k at t y u v c r f h =
+      let parts = chosen_parts e k t y r f h in
+      let C = parts.0 in
+      let K = compared_there home at k u v parts.1 c (fields_condition home k u parts.1 f.condition) in
+      subst (λ d. HasRowOperations home (assign (d ∷ []) None e (Some k) at)) (sym C.register.left_is) (
+        _,
+        _,
+        sets_if C.size C.wide C.register.kind_is C.register.there C.is C.no_number K.is
+            (encode (action.Cmov (conditions.Cc K.cond) C.size C.register.number C.arg') (λ a b. cmov_spelled a (conditions.Cc K.cond) C.size C.register.number C.arg' C.wide C.in_place (C.fits a b))),
+      )
+
 -- ---- assignments
-takes_of : (d : Lval) (o : Option BinOp) (e : Expr) → Values (d ∷ []) o e → Takes d (value_term o d e)
+pub takes_of : (d : Lval) (o : Option BinOp) (e : Expr) → Values (d ∷ []) o e → Takes d (value_term o d e)
 takes_of d o e (lefts.one t) = t
 
 pub assignments : AssignmentsHaveOperations
 assignments frame home d o e None at homing r c = by_operator o r c
   where
-    by_operator : (o : Option BinOp) → IsReadyAssign home d o e None at → IsCovered d o e None → HasOperations home (assign (d ∷ []) o e None at)
+    by_operator : (o : Option BinOp) → IsReadyAssign home d o e None at → IsCovered d o e None → HasRowOperations home (assign (d ∷ []) o e None at)
     by_operator None r c =
         let m = assign_matches d None e None c.row c.selected in
         let k = assigned_rm d None e m in

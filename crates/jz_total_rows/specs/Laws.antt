@@ -1,14 +1,10 @@
--- Which assignments and tests have operations.
+-- Which assignments and tests have operations by the rows of jz_row_operations.
 use Rattle.std.specs.Prelude.{◌≡◌, ◌⊎◌, true, List, [], ◌∷◌, Option, Some, None, ⊤}
 use Rattle.jz_io.specs.declared.span.Span.{Span}
 use Rattle.jz_tree.specs.declared.expr.BinOp.{BinOp}
 use Rattle.jz_tree.specs.declared.expr.Expr.{Expr}
 use Rattle.jz_tree.specs.declared.expr.Expr.TheVariants as expr
 use Rattle.jz_tree.specs.declared.stmt.Lval.{Lval}
-use Rattle.jz_tree.specs.declared.stmt.Rhs.TheVariants as rhs
-use Rattle.jz_tree.specs.declared.stmt.StmtKind.TheVariants as stmt
-use Rattle.jz_select.specs.declared.pattern.Pattern.{Pattern}
-use Rattle.jz_select.specs.Selected.{IsSelected}
 use Rattle.jz_select.specs.Shapes.{is_test}
 use Rattle.jz_judgement.specs.Places.{truth}
 use Rattle.jz_judgement.specs.HasType.{value, HasType}
@@ -43,23 +39,15 @@ pub record IsReadyAssign (home : Homes) (d : Lval) (o : Option BinOp) (e : Expr)
   -- it passes no limit; no number of an inline variable is wanted
   pub within : asked no_numbers (assign (d ∷ []) o e c at) ≡ []
 
-abbrev pub HasOperations : Homes → source.Operation → Type 0
-HasOperations home o = (os : List Operation) × (is : List Numbers) × Lowers home o os is
+abbrev pub HasRowOperations : Homes → source.Operation → Type 0
+HasRowOperations home o = (os : List Operation) × (is : List Numbers) × Lowers home o os is
 
 abbrev pub AssignmentsHaveOperations : Type 0
 AssignmentsHaveOperations =
     (frame : Frame) (home : Homes) (d : Lval) (o : Option BinOp) (e : Expr) (c : Option Expr)
     (at : Span)
     → IsHoming frame home → IsReadyAssign home d o e c at → IsCovered d o e c
-    → HasOperations home (assign (d ∷ []) o e c at)
-
--- no other assignment that has a row has operations
-abbrev pub OnlyCoveredHaveOperations : Type 0
-OnlyCoveredHaveOperations =
-    (home : Homes) (d : Lval) (o : Option BinOp) (e : Expr) (c : Option Expr) (at : Span)
-    (row : Pattern)
-    → IsSelected (stmt.Assign (d ∷ []) o (rhs.Value e) c) (Some row)
-    → HasOperations home (assign (d ∷ []) o e c at) → IsCovered d o e c
+    → HasRowOperations home (assign (d ∷ []) o e c at)
 
 -- ---- tests
 pub record IsReadyTest (home : Homes) (c : Expr) : Type 0 where
@@ -69,11 +57,11 @@ pub record IsReadyTest (home : Homes) (c : Expr) : Type 0 where
   pub matches : is_test c ≡ true
   pub within : asked_condition no_numbers c ≡ []
 
-abbrev pub HasTest : Homes → Condition → Type 0
-HasTest home t = (k : Asked) × (i : Numbers) × LowersTest home t k i
+abbrev pub HasRowTest : Homes → Condition → Type 0
+HasRowTest home t = (k : Asked) × (i : Numbers) × LowersTest home t k i
 
-abbrev pub HasLoopTest : Homes → Condition → Type 0
-HasLoopTest home t = (k : Asked) × (i : Numbers) × LowersLoopTest home t k i
+abbrev pub HasRowLoopTest : Homes → Condition → Type 0
+HasRowLoopTest home t = (k : Asked) × (i : Numbers) × LowersLoopTest home t k i
 
 abbrev pub IsTrueTest : Expr → Type 0
 IsTrueTest c = (here : Span) × (c ≡ expr.Bool true here)
@@ -81,18 +69,10 @@ IsTrueTest c = (here : Span) × (c ≡ expr.Bool true here)
 abbrev pub TestsHaveOperations : Type 0
 TestsHaveOperations =
     (home : Homes) (t : Condition)
-    → IsReadyTest home t.cond → IsComparison t.cond → HasTest home t
-
-abbrev pub OnlyComparisonsAreTests : Type 0
-OnlyComparisonsAreTests = (home : Homes) (t : Condition) → HasTest home t → IsComparison t.cond
+    → IsReadyTest home t.cond → IsComparison t.cond → HasRowTest home t
 
 -- that of a `while` may be `true`
 abbrev pub LoopTestsHaveOperations : Type 0
 LoopTestsHaveOperations =
     (home : Homes) (t : Condition)
-    → IsReadyTest home t.cond → IsComparison t.cond ⊎ IsTrueTest t.cond → HasLoopTest home t
-
-abbrev pub OnlyTheseAreLoopTests : Type 0
-OnlyTheseAreLoopTests =
-    (home : Homes) (t : Condition)
-    → HasLoopTest home t → IsComparison t.cond ⊎ IsTrueTest t.cond
+    → IsReadyTest home t.cond → IsComparison t.cond ⊎ IsTrueTest t.cond → HasRowLoopTest home t

@@ -1,5 +1,4 @@
 pub mod Expanded
 pub mod Covered
 pub mod Laws
-pub mod Bodies
 pub mod Variables

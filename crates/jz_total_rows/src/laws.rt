@@ -1,9 +1,7 @@
 //! Which typed statements have operations.
 
-ghost use Rattle.jz_total_rows.specs.Laws.{AssignmentsHaveOperations, OnlyCoveredHaveOperations};
-ghost use Rattle.jz_total_rows.specs.Laws.{TestsHaveOperations, OnlyComparisonsAreTests};
-ghost use Rattle.jz_total_rows.specs.Laws.{LoopTestsHaveOperations, OnlyTheseAreLoopTests};
-ghost use Rattle.jz_total_rows.specs.Bodies.{CoveredBodiesAreLowered, LoweredBodiesAreCovered};
+ghost use Rattle.jz_total_rows.specs.Laws.{AssignmentsHaveOperations};
+ghost use Rattle.jz_total_rows.specs.Laws.{TestsHaveOperations, LoopTestsHaveOperations};
 ghost use Rattle.jz_total_rows.specs.Variables.{VariablesHaveHomes};
 
 /// A variable of a function has the home that its declaration gives it, and a cell of a register
@@ -13,23 +11,13 @@ pub fn variables_have_homes()
 {}
 
 /// A typed assignment to one left side that the expansion leaves, that is within the limits and
-/// whose row is no quotient's has operations, and no other one that has a row has any. Its
-/// condition, where there is one, is a comparison.
+/// whose row is no quotient's has operations. Its condition, where there is one, is a comparison.
 pub fn assignments_have_operations()
-    ensures covered { AssignmentsHaveOperations }
-    ensures others { OnlyCoveredHaveOperations }
+    ensures { AssignmentsHaveOperations }
 {}
 
-/// A test that is a comparison has operations, and so has `true` of a `while`; no others have.
+/// A test that is a comparison has operations, and so has `true` of a `while`.
 pub fn tests_have_operations()
     ensures tests { TestsHaveOperations }
     ensures loop_tests { LoopTestsHaveOperations }
-    ensures other_tests { OnlyComparisonsAreTests }
-    ensures other_loop_tests { OnlyTheseAreLoopTests }
-{}
-
-/// A body of such statements has a body over variables, and no other one has.
-pub fn bodies_are_lowered()
-    ensures covered { CoveredBodiesAreLowered }
-    ensures others { LoweredBodiesAreCovered }
 {}

@@ -4,5 +4,5 @@ use Rattle.jasminc_compile.proofs.settling.first_refusal.Goals as goal
 pub returns-in-Some-clause-found : goal.returns-in-Some-clause-found
 returns-in-Some-clause-found c = inl c.in-Some.ensures.found
 
-pub first_behind_operations-requires : goal.first_behind_operations-requires
-first_behind_operations-requires c = c.in-None.ensures.none refl
+pub first_behind_frames-requires : goal.first_behind_frames-requires
+first_behind_frames-requires c = c.in-None.ensures.none refl

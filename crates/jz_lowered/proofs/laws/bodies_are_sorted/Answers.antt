@@ -1,6 +1,6 @@
 use Rattle.std.proofs.Common.{sym, subst}
 use Rattle.jz_place.specs.Sorts.{AreSorted}
-use Rattle.jz_lowered.proofs.Sorted.{bodies_sorted}
+use Rattle.jz_lowered.proofs.SortedBodies.{bodies_sorted}
 use Rattle.jz_lowered.proofs.laws.bodies_are_sorted.Goals as goal
 
 pub returns : goal.returns

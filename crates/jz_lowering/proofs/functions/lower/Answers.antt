@@ -1,6 +1,6 @@
 use Rattle.jz_change.specs.Views.{change_of}
 use Rattle.jz_lowering.specs.Functions.{too_long}
-use Rattle.jz_lowering.proofs.FunctionLemmas.{keeps_runs, keeps_cases, is_ready, is_covered, is_long}
+use Rattle.jz_lowering.proofs.FunctionLemmas.{keeps_runs, keeps_cases, is_ready, is_long}
 use Rattle.jz_lowering.proofs.functions.lower.Goals as goal
 
 pub returns-clause-law : goal.returns-clause-law
@@ -12,9 +12,6 @@ returns-clause-cases c = keeps_cases c.args.fun.now c.in_ok-lowered.lowered (cha
 pub returns-clause-ready : goal.returns-clause-ready
 returns-clause-ready c =
     is_ready c.args.fun.now c.in_ok-lowered.lowered (change_of c.in_ok-lowered.lowered.change) c.in_ok-lowered.ensures.made (c.is_short.ensures.fits c.if-not-is_short.false)
-
-pub returns-clause-covered : goal.returns-clause-covered
-returns-clause-covered c = is_covered c.args.fun.now c.in_ok-lowered.lowered (change_of c.in_ok-lowered.lowered.change) c.in_ok-lowered.ensures.made
 
 pub returns-then-not-is_short-clause-refused : goal.returns-then-not-is_short-clause-refused
 returns-then-not-is_short-clause-refused c =

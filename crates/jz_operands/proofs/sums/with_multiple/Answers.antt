@@ -6,7 +6,7 @@ use Rattle.jz_words.specs.Words.{residue}
 use Rattle.jz_tree.specs.declared.expr.BinOp.TheVariants as op
 use Rattle.jz_tree.specs.declared.expr.Expr.TheVariants as expr
 use Rattle.jz_operands.specs.TableHomes.{homes_of}
-use Rattle.jz_operands.specs.InnerSums.{pairs_of}
+use Rattle.jz_operands.specs.SumTerms.{pairs_of}
 use Rattle.jz_operands.proofs.SumLemmas.{for_found, multiple_before, before_multiple}
 use Rattle.jz_operands.proofs.SumRefusals.{right_is, left_is, no_register, no_room}
 use Rattle.jz_operands.proofs.sums.with_multiple.Goals as goal

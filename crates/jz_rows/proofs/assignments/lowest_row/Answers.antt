@@ -4,7 +4,7 @@ use Rattle.jz_operands.specs.TableHomes.{homes_of}
 use Rattle.jz_operands.proofs.SumLemmas.{none_or}
 use Rattle.jz_rows.proofs.RowRules.{lowest_no_size, lowest_small, lowest_operand, lowest_no_variable, lowest_register}
 use Rattle.jz_tree.specs.declared.expr.Expr.TheVariants as expr
-use Rattle.jz_rows.specs.InnerRows.{IsRow}
+use Rattle.jz_rows.specs.Found.{IsRow}
 use Rattle.jz_rows.proofs.assignments.lowest_row.Goals as goal
 
 pub returns : goal.returns

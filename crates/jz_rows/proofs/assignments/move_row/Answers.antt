@@ -4,7 +4,7 @@ use Rattle.jz_row_operations.specs.Lowering.{numbers_from}
 use Rattle.jz_rows.proofs.RowLemmas.{move_is}
 use Rattle.jz_operands.proofs.SumLemmas.{none_or}
 use Rattle.jz_rows.proofs.RowRules.{move_source, move_dest}
-use Rattle.jz_rows.specs.InnerRows.{IsRow}
+use Rattle.jz_rows.specs.Found.{IsRow}
 use Rattle.jz_rows.proofs.assignments.move_row.Goals as goal
 
 pub returns : goal.returns

@@ -3,7 +3,7 @@ use Rattle.std.proofs.lemmas.Int.{to_z-of_z}
 use Rattle.std.specs.Int.{w128}
 use Rattle.jz_tree.specs.declared.expr.Expr.TheVariants as expr
 use Rattle.jz_operations.specs.declared.operation.Action.TheVariants as action
-use Rattle.jz_rows.specs.InnerRows.{IsRow}
+use Rattle.jz_rows.specs.Found.{IsRow}
 use Rattle.jz_rows.proofs.RowLemmas.{not_imm, row_behind, shift_is}
 use Rattle.jz_operands.specs.TableHomes.{homes_of}
 use Rattle.jz_operands.proofs.SumLemmas.{none_or}

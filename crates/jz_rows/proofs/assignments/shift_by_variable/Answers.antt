@@ -4,7 +4,7 @@ use Rattle.jz_tree.specs.declared.expr.Expr.TheVariants as expr
 use Rattle.jz_row_operations.specs.Rows.{mask_of}
 use Rattle.jz_operands.specs.TableHomes.{homes_of}
 use Rattle.jz_operands.proofs.SumLemmas.{none_or}
-use Rattle.jz_rows.specs.InnerRows.{IsRow}
+use Rattle.jz_rows.specs.Found.{IsRow}
 use Rattle.jz_rows.proofs.RowLemmas.{shift_by_is}
 use Rattle.jz_rows.proofs.RowRules.{no_shift_by_op, variable_home, shift_by_operand, shift_by_dest, variable_brought}
 use Rattle.jz_rows.proofs.assignments.shift_by_variable.Goals as goal

@@ -5,7 +5,7 @@ use Rattle.jz_operands.proofs.SumLemmas.{none_or}
 use Rattle.jz_operands.specs.declared.operands.Leaks.TheVariants.{Silent}
 use Rattle.jz_row_operations.specs.Table.{nothing}
 use Rattle.jz_rows.proofs.RowRules.{sign_operand, sign_imm, sign_dest, sign_brought}
-use Rattle.jz_rows.specs.InnerRows.{IsRow}
+use Rattle.jz_rows.specs.Found.{IsRow}
 use Rattle.jz_rows.proofs.assignments.sign_row.Goals as goal
 
 pub returns : goal.returns

@@ -5,7 +5,7 @@ use Rattle.jz_operands.proofs.SumLemmas.{none_or}
 use Rattle.jz_row_operations.specs.Table.{brought}
 use Rattle.jz_rows.proofs.RowRules.{no_sum_op, sum_first, sum_second, sum_imms, sum_dest, sum_brought}
 use Rattle.jz_tree.specs.declared.expr.Expr.TheVariants as expr
-use Rattle.jz_rows.specs.InnerRows.{IsRow}
+use Rattle.jz_rows.specs.Found.{IsRow}
 use Rattle.jz_rows.proofs.assignments.sum_row.Goals as goal
 
 pub returns : goal.returns

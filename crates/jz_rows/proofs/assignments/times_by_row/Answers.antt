@@ -7,7 +7,7 @@ use Rattle.jz_operands.proofs.SumLemmas.{none_or}
 use Rattle.jz_rows.proofs.RowRules.{by_narrow, by_first, by_imm, by_second, by_no_number, by_long, by_register}
 use Rattle.jz_tree.specs.declared.expr.Expr.TheVariants as expr
 use Rattle.jz_tree.specs.declared.expr.BinOp.TheVariants as op
-use Rattle.jz_rows.specs.InnerRows.{IsRow}
+use Rattle.jz_rows.specs.Found.{IsRow}
 use Rattle.jz_rows.proofs.assignments.times_by_row.Goals as goal
 
 pub returns : goal.returns

@@ -8,7 +8,7 @@ use Rattle.jz_operations.specs.declared.operation.Arg.TheVariants as arg
 use Rattle.jz_rows.proofs.RowRules.{times_narrow, times_first, times_second, times_imm, times_register, times_brought}
 use Rattle.jz_tree.specs.declared.expr.Expr.TheVariants as expr
 use Rattle.jz_tree.specs.declared.expr.BinOp.TheVariants as op
-use Rattle.jz_rows.specs.InnerRows.{IsRow}
+use Rattle.jz_rows.specs.Found.{IsRow}
 use Rattle.jz_rows.proofs.assignments.times_row.Goals as goal
 
 pub returns : goal.returns

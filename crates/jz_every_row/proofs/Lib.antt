@@ -1,0 +1,3 @@
+pub mod Known
+pub mod Marks
+pub mod Bodies

@@ -1,0 +1,9 @@
+pub mod LeadLemmas
+pub mod ShapeLemmas
+pub mod BinaryLemmas
+pub mod UnaryLemmas
+pub mod AddressLemmas
+pub mod CountLemmas
+pub mod ProductLemmas
+pub mod TestLemmas
+pub mod NamedLemmas

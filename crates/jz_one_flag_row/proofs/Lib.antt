@@ -1,0 +1,4 @@
+pub mod OneParts
+pub mod ByForm
+pub mod OneForm
+pub mod OneStatement

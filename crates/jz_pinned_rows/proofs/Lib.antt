@@ -1,0 +1,9 @@
+pub mod SliceLemmas
+pub mod ApartLemmas
+pub mod PartLemmas
+pub mod ResultLemmas
+pub mod WideLemmas
+pub mod DivideLemmas
+pub mod PairLemmas
+pub mod ChoiceLemmas
+pub mod SetLemmas

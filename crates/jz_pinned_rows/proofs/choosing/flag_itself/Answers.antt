@@ -1,0 +1,16 @@
+use Rattle.std.proofs.Common.{rules}
+use Rattle.jz_operands.specs.TableHomes.{homes_of}
+use Rattle.jz_pinned_rows.proofs.ChoiceLemmas.{no_bool_variable}
+use Rattle.jz_pinned_rows.proofs.choosing.flag_itself.Goals as goal
+
+pub returns-in-Undeclared : goal.returns-in-Undeclared
+returns-in-Undeclared c = no_bool_variable (homes_of c.args.homes.now) c.args.var.now (search rules)
+
+pub returns-in-Int : goal.returns-in-Int
+returns-in-Int c = no_bool_variable (homes_of c.args.homes.now) c.args.var.now (search rules)
+
+pub returns-in-Word : goal.returns-in-Word
+returns-in-Word c = no_bool_variable (homes_of c.args.homes.now) c.args.var.now (search rules)
+
+pub returns-in-Array : goal.returns-in-Array
+returns-in-Array c = no_bool_variable (homes_of c.args.homes.now) c.args.var.now (search rules)
