@@ -1,5 +1,5 @@
 -- The copies of arguments and results of a call, where they are unrolled.
-use Rattle.std.proofs.Common.{◌≡◌, ℕ, ◌<◌, List, [], ◌∷◌, Option, Some, None, Bool, true, false, refl, ap, sym, ◌∙◌, subst, arith, bytes_eq}
+use Rattle.std.proofs.Common.{◌≡◌, ℕ, ◌+◌, ◌<◌, ◌≤◌, length, List, [], ◌∷◌, Option, Some, None, Bool, true, false, refl, ap, sym, ◌∙◌, subst, arith, bytes_eq}
 use Rattle.std.specs.Prelude.{ℤ, ◌==◌, ◌&&◌, not, is_none, if◌then◌else◌}
 use Rattle.std.specs.List.{list_all}
 use Rattle.std.proofs.lemmas.Bool.{and_parts, true≢false}
@@ -54,6 +54,8 @@ use Rattle.jz_kept_limits.proofs.Turned.{asking}
 use Rattle.jz_kept_limits.proofs.Operations.{assignment_within}
 use Rattle.jz_expanded_limits.proofs.Known.{KnowsOnly, Knows, value_back}
 use Rattle.jz_expanded_limits.proofs.CopiedParts.{no_int, part_turned, variable_left, left_turned}
+use Rattle.jz_expanded_limits.specs.Sizes.{statements_in}
+use Rattle.jz_expanded_limits.proofs.Costs.{at_most, one_more}
 use Rattle.jz_expanded_limits.proofs.CopiedSets.{Good}
 
 not_both : (t : Bool) → t ≡ true → not t ≡ true → ⊥
@@ -97,15 +99,19 @@ arguments_none i j e g (p ∷ ps) (x ∷ xs) named only = arguments_none i j e (
 -- a call in a copy of i, whose callee has the inline variables j; place: that of the limits
 module _ (names : InlineNames) (i j : Inlines) (m inner : Names) (c0 c : ℕ) (copy : IsCopy names i m c0) (below : IsCopy names j inner c) (up : c0 < c) (e : KnownNumbers) (place at : Span)
     (Post : KnownNumbers → Type 0) (R : Block) (last : KnownNumbers) where
-  -- what is true behind, and what follows is within the limits where the end is
-  abbrev Leads : Block → Type 0
-  Leads u = Post last × (Good R → Good u)
+  -- what is true behind, and what follows is within the limits where the end is, with n statements
+  -- more at most
+  abbrev Leads : ℕ → Block → Type 0
+  Leads n u = Post last × (Good R → Good u) × (statements_in u ≤ n + statements_in R)
+
+  loosen : (n l : ℕ) (u : Block) → n ≤ l → Leads n u → Leads l u
+  loosen n l u h r = (r.0, r.1, at_most (statements_in u) n l (statements_in R) r.2 h)
 
   abbrev Made : Block → KnownNumbers → Block → Change → Type 0
   Made t k u h = Unrolls (unrolling names) t k R u last h
 
-  abbrev Next : Block → KnownNumbers → Type 0
-  Next t k = (u : Block) (h : Change) → Made t k u h → Leads u
+  abbrev Next : ℕ → Block → KnownNumbers → Type 0
+  Next n t k = (u : Block) (h : Change) → Made t k u h → Leads n u
 
   -- a variable of the callee's copy is set
   later_knows : (v : Var) (k : KnownNumbers) (y : Option ℤ) → j (ref_of v).name ≡ true → Knows names i m e k → Knows names i m e (with_number k (var_in inner v) y)
@@ -135,8 +141,8 @@ module _ (names : InlineNames) (i j : Inlines) (m inner : Names) (c0 c : ℕ) (c
   unset_so k g p x q known n = known n ∙ sym (ap (λ b. (if b then with_number g p.var (number_in e x) else g) n 0) q)
 
   -- behind the first argument
-  abbrev After : Param → Expr → KnownNumbers → KnownNumbers → Block → Type 0
-  After p x g k t = (k2 : KnownNumbers) → Knows names i m e k2 → ((n : List ℕ) → k2 n c ≡ with_argument e p.var x g n 0) → ((n : List ℕ) (a : ℕ) → a < c → k2 n a ≡ k n a) → Next t k2
+  abbrev After : ℕ → Param → Expr → KnownNumbers → KnownNumbers → Block → Type 0
+  After l p x g k t = (k2 : KnownNumbers) → Knows names i m e k2 → ((n : List ℕ) → k2 n c ≡ with_argument e p.var x g n 0) → ((n : List ℕ) (a : ℕ) → a < c → k2 n a ≡ k n a) → Next l t k2
 
   value_leads : (p : Param) (x : Expr) (k : KnownNumbers) → IsNamedVar j p.var → is_text x ≡ true → Knows names i m e k → asked e (copied_to (lval.Var p.var) x place) ≡ [] → j (ref_of p.var).name ≡ false → has_values names k (expr_in m x) ≡ true
       → asked no_numbers (assign (lval.Var (var_in inner p.var) ∷ []) None (with_scalars (with_values k (expr_in m x))) None at) ≡ []
@@ -144,9 +150,9 @@ module _ (names : InlineNames) (i j : Inlines) (m inner : Names) (c0 c : ℕ) (c
       assignment_within e no_numbers (lval.Var p.var ∷ []) (lval.Var (var_in inner p.var) ∷ []) (variable_left inner e p.var (named.2 ∙ out), tt) x (with_scalars (with_values k (expr_in m x)))
       (part_turned names i m copy.named e k h x text values) None None tt None place at within
 
-  argument_leads : (p : Param) (x : Expr) (g k : KnownNumbers) (t u : Block) (d : Change) → is_array (ref_of p.var).kind ≡ false → IsNamedArgument i j p.var x → asked e (copied_to (lval.Var p.var) x place) ≡ [] → Knows names i m e k
-      → ((n : List ℕ) → k n c ≡ g n 0) → After p x g k t → Made (op (argument p x) t) k u d → Leads u
-  argument_leads p x g k t u d plain named within h known after (u_op {u = u2} {k = d2} (stays ok) made) = by_name (j (ref_of p.var).name) refl
+  argument_leads : (l : ℕ) (p : Param) (x : Expr) (g k : KnownNumbers) (t u : Block) (d : Change) → is_array (ref_of p.var).kind ≡ false → IsNamedArgument i j p.var x → asked e (copied_to (lval.Var p.var) x place) ≡ [] → Knows names i m e k
+      → ((n : List ℕ) → k n c ≡ g n 0) → After l p x g k t → Made (op (argument p x) t) k u d → Leads (1 + l) u
+  argument_leads l p x g k t u d plain named within h known after (u_op {u = u2} {k = d2} (stays ok) made) = by_name (j (ref_of p.var).name) refl
     where
       own : IsNamedVar j p.var × (is_none (ref_of p.var).cell ≡ true) × (is_text x ≡ true)
       own = by_not (is_array (ref_of p.var).kind) _ _ plain named
@@ -156,38 +162,40 @@ module _ (names : InlineNames) (i j : Inlines) (m inner : Names) (c0 c : ℕ) (c
           let a = and_parts (list_all (left_has_values names k) (lval.Var (var_in inner p.var) ∷ [])) _ ok in
           ((and_parts (left_has_values names k (lval.Var (var_in inner p.var))) true a.0).0, (and_parts (has_values names k (expr_in m x)) _ a.1).0)
 
-      by_name : (b : Bool) → j (ref_of p.var).name ≡ b → Leads (op (assign (lval.Var (var_in inner p.var) ∷ []) None (with_values k (expr_in m x)) None at) u2)
+      by_name : (b : Bool) → j (ref_of p.var).name ≡ b → Leads (1 + l) (op (assign (lval.Var (var_in inner p.var) ∷ []) None (with_values k (expr_in m x)) None at) u2)
       by_name true q =
           absurd (not_both (is_inline_var names (var_in inner p.var)) (var_named names j inner below.named p.var ∙ q) (and_parts (not (is_inline_var names (var_in inner p.var))) _ parts.0).0)
       by_name false q =
           let rest = after k h (unset_so k g p x (own.0.2 ∙ q) known) (λ n a lt. refl) u2 d2 made in
-          (rest.0, λ good. (value_leads p x k own.0 own.2 h within q parts.1, rest.1 good))
-  argument_leads p x g k t u d plain named within h known after (u_op {u = u2} {k = d2} (vanishes {y = y2} {i = z2} b int whole value cond) made) =
+          (rest.0, λ good. (value_leads p x k own.0 own.2 h within q parts.1, rest.1 good), one_more (statements_in u2) l (statements_in R) rest.2)
+  argument_leads l p x g k t u d plain named within h known after (u_op {u = u2} {k = d2} (vanishes {y = y2} {i = z2} b int whole value cond) made) =
       let own = by_not (is_array (ref_of p.var).kind) _ _ plain named in
       let name : j (ref_of p.var).name ≡ true = sym (var_named names j inner below.named p.var) ∙ int.named in
       let number : inline_value e x ≡ Some (constant.Int z2) = value_back names i m e k h x (constant.Int z2) own.2 (ap (inline_value k) (same_expr (expr_in m x) y2 whole) ∙ value.1) in
-      after (with_number k (var_in inner p.var) (Some z2)) (later_knows p.var k (Some z2) name h) (number_set k g p x z2 own.0.0 name (own.0.2 ∙ name) number known)
+      loosen l (1 + l) u2 (omega arith)
+      (after (with_number k (var_in inner p.var) (Some z2)) (later_knows p.var k (Some z2) name h) (number_set k g p x z2 own.0.0 name (own.0.2 ∙ name) number known)
       (λ n a lt. number_elsewhere (var_in inner p.var) k (Some z2) n a (λ same. (let o = own_copy names j inner c below p.var name in omega (arith, o, same, lt))))
-      u2 d2 (subst (λ w. Made t (if w then with_number k (var_in inner p.var) (Some z2) else k) u2 d2) cond made)
+      u2 d2 (subst (λ w. Made t (if w then with_number k (var_in inner p.var) (Some z2) else k) u2 d2) cond made))
 
   -- g: what was known of the copy's own variables before it
-  abbrev Given : List Param → List Expr → KnownNumbers → KnownNumbers → Block → Type 0
-  Given ps xs g k t = (k2 : KnownNumbers) → Knows names i m e k2 → ((n : List ℕ) → k2 n c ≡ with_arguments e ps xs g n 0) → ((n : List ℕ) (a : ℕ) → a < c → k2 n a ≡ k n a) → Next t k2
+  abbrev Given : ℕ → List Param → List Expr → KnownNumbers → KnownNumbers → Block → Type 0
+  Given l ps xs g k t = (k2 : KnownNumbers) → Knows names i m e k2 → ((n : List ℕ) → k2 n c ≡ with_arguments e ps xs g n 0) → ((n : List ℕ) (a : ℕ) → a < c → k2 n a ≡ k n a) → Next l t k2
 
-  first_leads : (p : Param) (x : Expr) (os : List Operation) (g k : KnownNumbers) (t u : Block) (d : Change) (b : Bool) → is_array (ref_of p.var).kind ≡ b → IsNamedArgument i j p.var x → (if b then [] else asked e (copied_to (lval.Var p.var) x place)) ≡ []
-      → Knows names i m e k → ((n : List ℕ) → k n c ≡ g n 0) → After p x g k (in_turn os t) → Made (in_turn (if b then os else (argument p x ∷ os)) t) k u d → Leads u
-  first_leads p x os g k t u d true q named within h known after made = after k h (unset_so k g p x (array_no_int (ref_of p.var).kind q) known) (λ n a lt. refl) u d made
-  first_leads p x os g k t u d false q named within h known after made = argument_leads p x g k (in_turn os t) u d q named within h known after made
+  first_leads : (l : ℕ) (p : Param) (x : Expr) (os : List Operation) (g k : KnownNumbers) (t u : Block) (d : Change) (b : Bool) → is_array (ref_of p.var).kind ≡ b → IsNamedArgument i j p.var x → (if b then [] else asked e (copied_to (lval.Var p.var) x place)) ≡ []
+      → Knows names i m e k → ((n : List ℕ) → k n c ≡ g n 0) → After l p x g k (in_turn os t) → Made (in_turn (if b then os else (argument p x ∷ os)) t) k u d → Leads (1 + l) u
+  first_leads l p x os g k t u d true q named within h known after made = loosen l (1 + l) u (omega arith) (after k h (unset_so k g p x (array_no_int (ref_of p.var).kind q) known) (λ n a lt. refl) u d made)
+  first_leads l p x os g k t u d false q named within h known after made = argument_leads l p x g k (in_turn os t) u d q named within h known after made
 
-  pub arguments_lead : (ps : List Param) (xs : List Expr) (g k : KnownNumbers) (t u : Block) (d : Change) → AreNamedArguments i j ps xs → argument_limits e place ps xs ≡ [] → Knows names i m e k → ((n : List ℕ) → k n c ≡ g n 0)
-      → Given ps xs g k t → Made (in_turn (argument_ops m inner at ps xs) t) k u d → Leads u
-  arguments_lead [] [] g k t u d named within h known next made = next k h known (λ n a lt. refl) u d made
-  arguments_lead [] (x ∷ xs) g k t u d named within h known next made = absurd named
-  arguments_lead (p ∷ ps) [] g k t u d named within h known next made = absurd named
-  arguments_lead (p ∷ ps) (x ∷ xs) g k t u d named within h known next made =
+  pub arguments_lead : (l : ℕ) (ps : List Param) (xs : List Expr) (g k : KnownNumbers) (t u : Block) (d : Change) → AreNamedArguments i j ps xs → argument_limits e place ps xs ≡ [] → Knows names i m e k → ((n : List ℕ) → k n c ≡ g n 0)
+      → Given l ps xs g k t → Made (in_turn (argument_ops m inner at ps xs) t) k u d → Leads (length xs + l) u
+  arguments_lead l [] [] g k t u d named within h known next made = loosen l (length {A = Expr} [] + l) u (omega arith) (next k h known (λ n a lt. refl) u d made)
+  arguments_lead l [] (x ∷ xs) g k t u d named within h known next made = absurd named
+  arguments_lead l (p ∷ ps) [] g k t u d named within h known next made = absurd named
+  arguments_lead l (p ∷ ps) (x ∷ xs) g k t u d named within h known next made =
       let w = nothing_both (one_argument e place p.var x) (argument_limits e place ps xs) within in
-      first_leads p x (argument_ops m inner at ps xs) g k t u d (is_array (ref_of p.var).kind) refl named.0 w.0 h known
-      (λ k2 h2 s2 b2 u2 d2 made2. arguments_lead ps xs (with_argument e p.var x g) k2 t u2 d2 named.1 w.1 h2 s2 (λ k3 h3 s3 b3. next k3 h3 s3 (λ n a lt. b3 n a lt ∙ b2 n a lt)) made2) made
+      loosen (1 + (length xs + l)) (length (x ∷ xs) + l) u (omega arith)
+      (first_leads (length xs + l) p x (argument_ops m inner at ps xs) g k t u d (is_array (ref_of p.var).kind) refl named.0 w.0 h known
+      (λ k2 h2 s2 b2 u2 d2 made2. arguments_lead l ps xs (with_argument e p.var x g) k2 t u2 d2 named.1 w.1 h2 s2 (λ k3 h3 s3 b3. next k3 h3 s3 (λ n a lt. b3 n a lt ∙ b2 n a lt)) made2) made)
 
   -- ---- results
   abbrev result : Lval → Var → Operation
@@ -223,36 +231,37 @@ module _ (names : InlineNames) (i j : Inlines) (m inner : Names) (c0 c : ℕ) (c
         let a = and_parts (list_all (left_has_values names k) (lval_in m d ∷ [])) _ ok in (and_parts (left_has_values names k (lval_in m d)) true a.0).0
 
     -- what stays
-    stay_leads : (d : Lval) (v : Var) (t u : Block) (g : Change) → IsNamedLeft i d → IsPlainLeft i d → IsNamedVar j v → j (ref_of v).name ≡ false → asked e (copied_to d (expr.Var v) place) ≡ [] → operation_has_values names k (result d v) ≡ true
-        → Next t k → Made t k u g → Leads (op (operation_with_values k (result d v)) u)
-    stay_leads d v t u g left plain named out within ok next made =
-        let rest = next u g made in (rest.0, λ good. (result_within d v left plain named out within (left_ok d v ok), rest.1 good))
+    stay_leads : (l : ℕ) (d : Lval) (v : Var) (t u : Block) (g : Change) → IsNamedLeft i d → IsPlainLeft i d → IsNamedVar j v → j (ref_of v).name ≡ false → asked e (copied_to d (expr.Var v) place) ≡ [] → operation_has_values names k (result d v) ≡ true
+        → Next l t k → Made t k u g → Leads (1 + l) (op (operation_with_values k (result d v)) u)
+    stay_leads l d v t u g left plain named out within ok next made =
+        let rest = next u g made in (rest.0, λ good. (result_within d v left plain named out within (left_ok d v ok), rest.1 good), one_more (statements_in u) l (statements_in R) rest.2)
 
-    result_leads : (d : Lval) (v : Var) (t u : Block) (g : Change) → IsNamedLeft i d → IsPlainLeft i d → IsNamedVar j v → j (ref_of v).name ≡ false → asked e (copied_to d (expr.Var v) place) ≡ [] → Next t k
-        → Made (op (result d v) t) k u g → Leads u
-    result_leads (lval.Skip s) v t u g left plain named out within next (u_op {u = u2} {k = g2} (stays ok) made) = stay_leads (lval.Skip s) v t u2 g2 left plain named out within ok next made
-    result_leads (lval.Var w) v t u g left plain named out within next (u_op {u = u2} {k = g2} (stays ok) made) = stay_leads (lval.Var w) v t u2 g2 left plain named out within ok next made
-    result_leads (lval.Var w) v t u g left plain named out within next (u_op {u = u2} {k = g2} (vanishes b int whole value cond) made) =
+    result_leads : (l : ℕ) (d : Lval) (v : Var) (t u : Block) (g : Change) → IsNamedLeft i d → IsPlainLeft i d → IsNamedVar j v → j (ref_of v).name ≡ false → asked e (copied_to d (expr.Var v) place) ≡ [] → Next l t k
+        → Made (op (result d v) t) k u g → Leads (1 + l) u
+    result_leads l (lval.Skip s) v t u g left plain named out within next (u_op {u = u2} {k = g2} (stays ok) made) = stay_leads l (lval.Skip s) v t u2 g2 left plain named out within ok next made
+    result_leads l (lval.Var w) v t u g left plain named out within next (u_op {u = u2} {k = g2} (stays ok) made) = stay_leads l (lval.Var w) v t u2 g2 left plain named out within ok next made
+    result_leads l (lval.Var w) v t u g left plain named out within next (u_op {u = u2} {k = g2} (vanishes b int whole value cond) made) =
         absurd (true≢false (sym int.named ∙ (var_named names i m copy.named w ∙ plain)))
-    result_leads (lval.Cell w x) v t u g left plain named out within next (u_op {u = u2} {k = g2} (stays ok) made) = stay_leads (lval.Cell w x) v t u2 g2 left plain named out within ok next made
-    result_leads (lval.Store a) v t u g left plain named out within next (u_op {u = u2} {k = g2} (stays ok) made) = stay_leads (lval.Store a) v t u2 g2 left plain named out within ok next made
+    result_leads l (lval.Cell w x) v t u g left plain named out within next (u_op {u = u2} {k = g2} (stays ok) made) = stay_leads l (lval.Cell w x) v t u2 g2 left plain named out within ok next made
+    result_leads l (lval.Store a) v t u g left plain named out within next (u_op {u = u2} {k = g2} (stays ok) made) = stay_leads l (lval.Store a) v t u2 g2 left plain named out within ok next made
 
-    given_leads : (d : Lval) (v : Var) (os : List Operation) (t u : Block) (g : Change) (b : Bool) → is_array (ref_of v).kind ≡ b → IsNamedLeft i d → IsPlainLeft i d → IsNamedVar j v → j (ref_of v).name ≡ false
-        → (if b then [] else asked e (copied_to d (expr.Var v) place)) ≡ [] → Next (in_turn os t) k → Made (in_turn (if b then os else (result d v ∷ os)) t) k u g → Leads u
-    given_leads d v os t u g true q left plain named out within next made = next u g made
-    given_leads d v os t u g false q left plain named out within next made = result_leads d v (in_turn os t) u g left plain named out within next made
+    given_leads : (l : ℕ) (d : Lval) (v : Var) (os : List Operation) (t u : Block) (g : Change) (b : Bool) → is_array (ref_of v).kind ≡ b → IsNamedLeft i d → IsPlainLeft i d → IsNamedVar j v → j (ref_of v).name ≡ false
+        → (if b then [] else asked e (copied_to d (expr.Var v) place)) ≡ [] → Next l (in_turn os t) k → Made (in_turn (if b then os else (result d v ∷ os)) t) k u g → Leads (1 + l) u
+    given_leads l d v os t u g true q left plain named out within next made = loosen l (1 + l) u (omega arith) (next u g made)
+    given_leads l d v os t u g false q left plain named out within next made = result_leads l d v (in_turn os t) u g left plain named out within next made
 
-    one_leads : (d : Lval) (v : Var) (os : List Operation) (t u : Block) (g : Change) → IsNamedLeft i d → IsPlainLeft i d → IsNamedVar j v → j (ref_of v).name ≡ false → one_result e place d v ≡ [] → Next (in_turn os t) k
-        → Made (in_turn (result_op m inner at d v os) t) k u g → Leads u
-    one_leads (lval.Skip s) v os t u g left plain named out within next made = next u g made
-    one_leads (lval.Var w) v os t u g left plain named out within next made = given_leads (lval.Var w) v os t u g (is_array (ref_of v).kind) refl left plain named out within next made
-    one_leads (lval.Cell w x) v os t u g left plain named out within next made = given_leads (lval.Cell w x) v os t u g (is_array (ref_of v).kind) refl left plain named out within next made
-    one_leads (lval.Store a) v os t u g left plain named out within next made = given_leads (lval.Store a) v os t u g (is_array (ref_of v).kind) refl left plain named out within next made
+    one_leads : (l : ℕ) (d : Lval) (v : Var) (os : List Operation) (t u : Block) (g : Change) → IsNamedLeft i d → IsPlainLeft i d → IsNamedVar j v → j (ref_of v).name ≡ false → one_result e place d v ≡ [] → Next l (in_turn os t) k
+        → Made (in_turn (result_op m inner at d v os) t) k u g → Leads (1 + l) u
+    one_leads l (lval.Skip s) v os t u g left plain named out within next made = loosen l (1 + l) u (omega arith) (next u g made)
+    one_leads l (lval.Var w) v os t u g left plain named out within next made = given_leads l (lval.Var w) v os t u g (is_array (ref_of v).kind) refl left plain named out within next made
+    one_leads l (lval.Cell w x) v os t u g left plain named out within next made = given_leads l (lval.Cell w x) v os t u g (is_array (ref_of v).kind) refl left plain named out within next made
+    one_leads l (lval.Store a) v os t u g left plain named out within next made = given_leads l (lval.Store a) v os t u g (is_array (ref_of v).kind) refl left plain named out within next made
 
-    pub results_lead : (ds : List Lval) (vs : List Var) (t u : Block) (g : Change) → AreNamedResults i j ds vs → result_limits e place ds vs ≡ [] → Next t k → Made (in_turn (result_ops m inner at ds vs) t) k u g → Leads u
-    results_lead [] [] t u g named within next made = next u g made
-    results_lead [] (v ∷ vs) t u g named within next made = absurd named
-    results_lead (d ∷ ds) [] t u g named within next made = absurd named
-    results_lead (d ∷ ds) (v ∷ vs) t u g named within next made =
+    pub results_lead : (l : ℕ) (ds : List Lval) (vs : List Var) (t u : Block) (g : Change) → AreNamedResults i j ds vs → result_limits e place ds vs ≡ [] → Next l t k → Made (in_turn (result_ops m inner at ds vs) t) k u g → Leads (length ds + l) u
+    results_lead l [] [] t u g named within next made = loosen l (length {A = Lval} [] + l) u (omega arith) (next u g made)
+    results_lead l [] (v ∷ vs) t u g named within next made = absurd named
+    results_lead l (d ∷ ds) [] t u g named within next made = absurd named
+    results_lead l (d ∷ ds) (v ∷ vs) t u g named within next made =
         let w = nothing_both (one_result e place d v) (result_limits e place ds vs) within in
-        one_leads d v (result_ops m inner at ds vs) t u g named.0.0 named.0.1 named.0.2 named.0.3 w.0 (λ u2 g2 made2. results_lead ds vs t u2 g2 named.1 w.1 next made2) made
+        loosen (1 + (length ds + l)) (length (d ∷ ds) + l) u (omega arith)
+        (one_leads (length ds + l) d v (result_ops m inner at ds vs) t u g named.0.0 named.0.1 named.0.2 named.0.3 w.0 (λ u2 g2 made2. results_lead l ds vs t u2 g2 named.1 w.1 next made2) made)

@@ -1,5 +1,5 @@
 -- What an operation of a copy becomes where it is unrolled.
-use Rattle.std.proofs.Common.{◌≡◌, ℕ, List, [], ◌∷◌, map, Option, Some, None, Bool, true, false, refl, ap, sym, ◌∙◌, subst, inl, inr}
+use Rattle.std.proofs.Common.{◌≡◌, ℕ, ◌+◌, ◌≤◌, arith, List, [], ◌∷◌, map, Option, Some, None, Bool, true, false, refl, ap, sym, ◌∙◌, subst, inl, inr}
 use Rattle.std.specs.Prelude.{ℤ, ◌⊎◌, not, if◌then◌else◌, option_map, ⊤}
 use Rattle.std.specs.List.{list_all}
 use Rattle.std.proofs.lemmas.Bool.{and_parts, true≢false}
@@ -31,6 +31,7 @@ use Rattle.jz_unrolling_laws.specs.CalledBodies.{Inlines, in_source, IsTextIf, I
 use Rattle.jz_copied_values.proofs.StillWalks.{still_op}
 use Rattle.jz_copied_values.proofs.CopiedWholes.{whole_in, whole_text}
 use Rattle.jz_copied_values.proofs.CopiedNumbers.{IsCopy, copied_int}
+use Rattle.jz_expanded_limits.specs.Sizes.{statements_in}
 use Rattle.jz_expanded_limits.proofs.CopiedParts.{operation_within}
 use Rattle.jz_expanded_limits.proofs.Known.{Knows, value_back, Ends, ends_here, set_ends}
 
@@ -115,6 +116,12 @@ module _ (names : InlineNames) (m : Names) where
   never_sets (unset vs) still s = unset_no (map (var_in m) vs) (lval.Var s.var ∷ []) s.operator s.value s.condition s.at s.is
   never_sets (meaningless at) still s = meaningless_no at (lval.Var s.var ∷ []) s.operator s.value s.condition s.at s.is
 
+as_many : (n : ℕ) → n ≤ n
+as_many n = omega arith
+
+one_less : (n : ℕ) → n ≤ 1 + n
+one_less n = omega arith
+
 -- ---- operations
 -- what is known behind one that sets an inline variable
 set_known : (e : KnownNumbers) (v : Var) (o : Option BinOp) (x y : Expr) (c : Option Expr) (z : ℤ) (b : Bool) → is_int (ref_of v).kind ≡ true → whole_of (Some (lval.Var v)) o x ≡ Some y → HasValue e y (constant.Int z) → ConditionIs e v c b
@@ -145,11 +152,13 @@ module _ (names : InlineNames) (i : Inlines) (m : Names) (c0 : ℕ) (copy : IsCo
   pub record Done (e1 k1 : KnownNumbers) (os : List Operation) : Type 0 where
     pub ends : Ends names i m c0 e1 k k1
     pub good : (u : Block) → Good u → Good (in_turn os u)
+    pub count : (u : Block) → statements_in (in_turn os u) ≤ 1 + statements_in u
 
   stay_done : (o : Operation) (k1 : KnownNumbers) (os : List Operation) → IsNamedOp i o → IsStillOp o → asked e o ≡ [] → Stays names (op_in m o) k k1 os → Done (known_after e o) k1 os
   stay_done o k1 os named still within s = record {
     ends = subst (λ w. Ends names i m c0 w k k1) (sym (still_op o e still)) (subst (Ends names i m c0 e k) (sym s.same) (ends_here names i m c0 e k h));
     good = λ u g. subst (λ w. Good (in_turn w u)) (sym s.made) (operation_within names i m copy.named e k h o named s.values within, g);
+    count = λ u. subst (λ w. statements_in (in_turn w u) ≤ 1 + statements_in u) (sym s.made) (as_many (1 + statements_in u));
   }
 
   condition_same : (v : Var) (c : Option Expr) (a b : Bool) → IsTextIf c → ConditionIs k (var_in m v) (option_map (expr_in m) c) a → ConditionIs e v c b → a ≡ b
@@ -182,6 +191,7 @@ module _ (names : InlineNames) (i : Inlines) (m : Names) (c0 : ℕ) (copy : IsCo
       record {
         ends = subst (λ w. Ends names i m c0 w k (if b2 then with_number k (var_in m v) (Some z2) else k)) (sym (set_known e v o x y c z b int.int whole value cond)) made;
         good = λ u g. g;
+        count = λ u. one_less (statements_in u);
       }
 
   by_stay : (o : Operation) (k1 : KnownNumbers) (os : List Operation) → IsNamedOp i o → IsStillOp o → asked e o ≡ [] → Stays names (op_in m o) k k1 os ⊎ Sets names (op_in m o) → Done (known_after e o) k1 os

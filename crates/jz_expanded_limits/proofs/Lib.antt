@@ -1,6 +1,7 @@
 pub mod CopiedLooks
 pub mod CopiedConstants
 pub mod Known
+pub mod Costs
 pub mod CopiedParts
 pub mod CopiedSets
 pub mod CopiedArguments

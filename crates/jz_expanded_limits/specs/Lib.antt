@@ -1,3 +1,4 @@
 pub mod WithinBodies
+pub mod Sizes
 pub mod ExpandedLimits
 pub use Rattle.jz_expansion.specs.Expansions

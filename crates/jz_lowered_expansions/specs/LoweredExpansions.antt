@@ -1,5 +1,5 @@
 -- Lowering refuses the expansion of an export function of a typed text at none of its statements, and
--- for nothing but its size.
+-- for nothing but the number of its variables.
 use Rattle.std.specs.Prelude.{ℕ, ◌≡◌, ◌≤◌, ◌^◌, ◌⊎◌, length, true, Contains}
 use Rattle.jz_tree.specs.Span.{Span}
 use Rattle.jz_tree.specs.declared.program.Fun.{Fun}
@@ -9,7 +9,6 @@ use Rattle.jz_types.specs.TypedPrograms.{IsTypedProgram}
 use Rattle.jz_texts.specs.Texts.{IsText}
 use Rattle.jz_change.specs.Changes.{Change}
 use Rattle.jz_expansion.specs.Expansions.{IsExpansion}
-use Rattle.jz_short.specs.Lengths.{statements_in}
 use Rattle.jz_lowering.specs.Parts.{parts_in, IsFirstWithout}
 use Rattle.jz_lowering.specs.Functions.{plain_body, table_of, homes_for, Refuses}
 
@@ -21,11 +20,10 @@ ExpansionsHaveCode =
     → IsFirstWithout (homes_for g) (parts_in (plain_body g)) at → ⊥
 
 -- ---- at all
--- 2^32 words and bools in registers, 2^32 variables on the stack, or 2^24 statements
+-- 2^32 words and bools in registers, or 2^32 variables on the stack
 abbrev pub IsTooLarge : Fun → Type 0
 IsTooLarge g =
-    (2 ^ 32 ≤ length (table_of g).kinds) ⊎ ((2 ^ 32 ≤ length (table_of g).stack)
-    ⊎ (2 ^ 24 ≤ statements_in (plain_body g)))
+    (2 ^ 32 ≤ length (table_of g).kinds) ⊎ (2 ^ 32 ≤ length (table_of g).stack)
 
 abbrev pub OnlyLargeAreRefused : Type 0
 OnlyLargeAreRefused =

@@ -1,5 +1,5 @@
-//! Lowering refuses the expansion of a typed text at none of its statements, and for nothing but its
-//! size. There is no code here.
+//! Lowering refuses the expansion of a typed text at none of its statements, and for nothing but the
+//! number of its variables. There is no code here.
 #![tactic(auto)]
 
 mod laws;

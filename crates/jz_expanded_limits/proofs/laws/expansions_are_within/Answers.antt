@@ -1,5 +1,8 @@
-use Rattle.jz_expanded_limits.proofs.Whole.{expansions_are_within}
+use Rattle.jz_expanded_limits.proofs.Whole.{expansions_are_within, expansions_are_short}
 use Rattle.jz_expanded_limits.proofs.laws.expansions_are_within.Goals as goal
 
-pub returns : goal.returns
-returns c = expansions_are_within
+pub returns-clause-within : goal.returns-clause-within
+returns-clause-within c = expansions_are_within
+
+pub returns-clause-short : goal.returns-clause-short
+returns-clause-short c = expansions_are_short
