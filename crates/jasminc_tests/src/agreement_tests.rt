@@ -285,7 +285,7 @@ static CALLS: [Program; 15] = [
 ];
 
 /// The routines of examples/ that are safe.
-static ROUTINES: [Routine; 17] = [
+static ROUTINES: [Routine; 18] = [
     Routine {
         fun: "add",
         program: Program {
@@ -319,6 +319,13 @@ static ROUTINES: [Routine; 17] = [
         program: Program {
             text: b"#[region=\"table: 8*len\"]\n#[range=\"len: 0..4096\"]\n#[align=\"table: 8\"]\nexport fn masked_lookup(#public reg u64 table len, #secret reg u64 index) -> reg u64 {\n  reg u64 found word i;\n  found = 0;\n  i = 0;\n  while (i < len) {\n    word = [table + 8*i];\n    found = word if i == index;\n    i += 1;\n  }\n  return found;\n}\n",
             items: "@01000000000000000200000000000000 2 1",
+        },
+    },
+    Routine {
+        fun: "table_lookup",
+        program: Program {
+            text: b"#[region=\"table: 32\"]\n#[align=\"table: 8\"]\nexport fn table_lookup(#public reg u64 table, #secret reg u64 index) -> reg u64 {\n  reg u64 place;\n  reg u64 found;\n  place = index;\n  place &= 3;\n  found = [table + 8*place];\n  return found;\n}\n",
+            items: "@0a0000000000000014000000000000001e000000000000002800000000000000 6",
         },
     },
     Routine {

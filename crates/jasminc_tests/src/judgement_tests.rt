@@ -225,9 +225,9 @@ static BREACHES: [Row; 10] = [
     },
     Row {
         words: CT,
-        text: b"// Gives word index of a table of len words. The address that is read tells index, so `ct` refuses it;\n// masked_lookup.jazz reads all words of the table in its place.\n//\n// ./jasminc ct examples/table_lookup.jazz\n// ct table_lookup no 11:11 Address index\n#[region=\"table: 8*len\"]\n#[range=\"len: 1..4096\"]\n#[align=\"table: 8\"]\nexport fn table_lookup(#public reg u64 table len, #secret reg u64 index) -> reg u64 {\n  reg u64 found;\n  found = [table + 8*index];\n  return found;\n}\n",
+        text: b"// Gives the word of a table of four whose place are the two lowest bits of index. The address that is\n// read tells them, so `ct` refuses it; masked_lookup.jazz reads all words of its table instead.\n//\n// ./jasminc ct examples/table_lookup.jazz\n// ct table_lookup no 16:11 Address place\n//\n// ./jasminc exec examples/table_lookup.jazz table_lookup \\\n//   @0a0000000000000014000000000000001e000000000000002800000000000000 6\n#[region=\"table: 32\"]\n#[align=\"table: 8\"]\nexport fn table_lookup(#public reg u64 table, #secret reg u64 index) -> reg u64 {\n  reg u64 place;\n  reg u64 found;\n  place = index;\n  place &= 3;\n  found = [table + 8*place];\n  return found;\n}\n",
         status: Status::CtNo,
-        written: "ct table_lookup no 11:11 Address index\n",
+        written: "ct table_lookup no 16:11 Address place\n",
         made: 0,
     },
     Row {
