@@ -105,13 +105,7 @@ pub(crate) fn walk_statement<'a>(
             let next = walk_while(given, set, heads, at, parts)?;
             Ok(next)
         }
-        StmtKind::For {
-            counter: _,
-            from: _,
-            down: _,
-            to: _,
-            body: _,
-        } => unreachable!(),
+        StmtKind::For { .. } => unreachable!(),
         StmtKind::Mark(vars) => {
             after_mark(set, vars)?;
             Ok(at)

@@ -52,7 +52,8 @@ fn write_next(
     requires below { offset < length code.now }
     requires small { length code.now < 2 ^ 32 }
     ensures line { IfOk result (λ len. (i : Insn) × Decodes (drop offset code.now) i len
-        × (text.new.items ≡ text.old.items ++ line_text offset (take len (drop offset code.now)) i)) }
+        × (text.new.items
+        ≡ text.old.items ++ line_text offset (take len (drop offset code.now)) i)) }
     ensures gap { IfErr result (λ failure. IfRefused failure
         (λ gap. (gap.offset ≡ offset) × HasNoInsn (drop offset code.now) gap.kind)) }
 {

@@ -70,7 +70,8 @@ fn write_index(text: &mut Vec<u8>, reg: Reg, scale: u8) -> Result<(), AllocError
 /// The sum that an address is.
 #[tactic(auto, unfolding(crate::specs::Operands::sum_text))]
 fn write_sum(text: &mut Vec<u8>, mem: Mem) -> Result<(), AllocError>
-    ensures { OnOk result (text.new.items ≡ text.old.items ++ sum_text mem.base mem.index mem.disp) }
+    ensures { OnOk result
+        (text.new.items ≡ text.old.items ++ sum_text mem.base mem.index mem.disp) }
 {
     match (mem.base, mem.index) {
         (Base::Absent, None) => write_signed(text, i64::from(mem.disp)),

@@ -76,7 +76,8 @@ fn pass_one(
     arg: &Expr,
     inner: &mut Known,
 ) -> Result<(), AllocError>
-    ensures { let after = with_argument (numbers_of known.now) param.now arg.now (numbers_of inner.old) in
+    ensures { let after = with_argument (numbers_of known.now) param.now arg.now
+        (numbers_of inner.old) in
         OnOk result (numbers_of inner.new ≡ after) }
 {
     if is_int(param) {

@@ -64,7 +64,8 @@ fn update(
     known: &mut Known,
 ) -> Result<(), AllocError>
     ensures { (at : Place) →
-        let done = assign assigning.entry.to.now assigning.entry.op value.now assigning.entry.cond.now at in
+        let done = assign assigning.entry.to.now assigning.entry.op value.now
+        assigning.entry.cond.now at in
         OnOk result (numbers_of known.new ≡ known_after (numbers_of known.old) done) }
 {
     match inline_target(assigning.to) {
@@ -92,7 +93,8 @@ pub fn meet_value(
 ) -> Result<Met, AllocError>
     requires { count ≤ most_statements }
     ensures { (at : Place) →
-        let done = assign assigning.entry.to.now assigning.entry.op value.now assigning.entry.cond.now at in
+        let done = assign assigning.entry.to.now assigning.entry.op value.now
+        assigning.entry.cond.now at in
         let walk = operation_walk done (numbers_of known.old) in
         IfOk result (λ r. Meets count walk r (numbers_of known.new)) }
 {
@@ -120,7 +122,8 @@ pub fn meet_instruction(
     ensures { let e = numbers_of known.now in
         (at : Place) →
         let to = assigning.entry.to.now in
-        let done = instructed_of to assigning.entry.op name.now args.now assigning.entry.cond.now at in
+        let done = instructed_of to assigning.entry.op name.now args.now
+        assigning.entry.cond.now at in
         IfOk result (λ r. Meets count (operation_walk done e) r e) }
 {
     match assigning.op {

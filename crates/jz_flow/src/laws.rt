@@ -64,6 +64,6 @@ pub fn facts_hold_along_runs<A: Analysis>()
         → After A.steps b s x → First A.steps A.asks b s None no_more → Meets A.steps A.asks b s x }
     ensures runs { (b : Tree A.Operation A.Test A.Counter A.Call) (n : ℕ) (m : A.State)
         (o : Outcome A.State A.Reason Leak) (s x : Facts A.Fact)
-        → AllAre A.fine A.fine_test b → Goes A.parts b n m o → A.holds s m → Meets A.steps A.asks b s x
-        → Fine (A.holds x) o }
+        → AllAre A.fine A.fine_test b → Goes A.parts b n m o → A.holds s m
+        → Meets A.steps A.asks b s x → Fine (A.holds x) o }
 {}

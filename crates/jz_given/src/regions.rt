@@ -28,7 +28,8 @@ fn named_if(
     params: &Seq<Param>,
     name: &Option<Text>,
 ) -> Result<Option<Var>, AllocError>
-    ensures { IfOk result (λ found. found ≡ giving.named_if name.now (giving.variables params.now)) }
+    ensures { IfOk result
+        (λ found. found ≡ giving.named_if name.now (giving.variables params.now)) }
 {
     match name {
         None => Ok(None),

@@ -27,7 +27,7 @@ use Rattle.jz_select.specs.declared.shape.Shape as rowed
 use Rattle.jz_select.specs.declared.shape.Shape.TheVariants as shapes
 use Rattle.jz_select.specs.Look.{look_of, bin_inline}
 use Rattle.jz_select.specs.Operands.{class_at, var_class, class_if, inline_or, mask_of, is_byte, register_layer, masked_class, class_layer, class_of, dest_of}
-use Rattle.jz_select.specs.Rows.{is_r, is_m, is_i, is_rm, is_rmi, is_skip, is_flag, is_flag_result, is_pinned, may_lead, are_inline, adds, joins_bits, multiplies, is_long, product_size, p2, p3, p7, p14}
+use Rattle.jz_select.specs.Rows.{is_r, is_m, is_i, is_rm, is_rmi, is_skip, is_flag, is_flag_result, is_pinned, may_lead, are_inline, adds, joins_bits, multiplies, is_long, product_size, arithmetic_row, carrying_row, wide_product_row, conditional_row}
 use Rattle.jz_select.specs.Shapes.{Asked, itself, beside, carry_layer, two_beside, value_layer, update_layer, assign_of, conditional, has_flags}
 use Rattle.jz_type_names.specs.declared.kinds.Kind as known
 use Rattle.jz_type_names.specs.declared.kinds.Kind.TheVariants as scope
@@ -206,11 +206,11 @@ module _ (x d w : Class) where
       let k = and_parts (is_rmi a.class) _ n.1 in
       (record { first = or_left (is_flag_result x) (is_r x) l.0; second = or_left (is_rm d) (is_skip d) n.0 }, k.0, r.0, m.0)
 
-  two_p2 : (p : BinOp) (a o : Operand) → p2 (B (values.Two p a o)) ≡ true → PairIs x d (values.Two p a o)
-  two_p2 p a o h = sums_is p a o _ (and_parts (adds p || (joins_bits p && false)) _ h).1
+  arithmetic_is : (p : BinOp) (a o : Operand) → arithmetic_row (B (values.Two p a o)) ≡ true → PairIs x d (values.Two p a o)
+  arithmetic_is p a o h = sums_is p a o _ (and_parts (adds p || (joins_bits p && false)) _ h).1
 
-  two_p7 : (p : BinOp) (a b : Operand) → p7 (B (values.Two p a b)) ≡ true → PairIs x d (values.Two p a b)
-  two_p7 p a b h =
+  wide_product_is : (p : BinOp) (a b : Operand) → wide_product_row (B (values.Two p a b)) ≡ true → PairIs x d (values.Two p a b)
+  wide_product_is p a b h =
       let y = and_parts (multiplies p) _ h in
       let k = and_parts (is_pinned x) _ y.1 in
       let l = and_parts (is_long (product_size None x d a b)) _ k.1 in
@@ -224,17 +224,17 @@ module _ (x d w : Class) where
         | inr s ↦ or_left (is_rm d) (is_skip d) (or_left (is_r d) (is_m d) (and_parts (is_r d) rest s).0)
       ]
 
-  carry_p3 : (p : BinOp) (a o : Operand) → p3 (B (values.Carry p a o)) ≡ true → PairIs x d (values.Carry p a o)
-  carry_p3 p a o h = sums_is p a o _ h
+  carrying_is : (p : BinOp) (a o : Operand) → carrying_row (B (values.Carry p a o)) ≡ true → PairIs x d (values.Carry p a o)
+  carrying_is p a o h = sums_is p a o _ h
 
   pair_is : (v : Value) → Matches (B v) → PairIs x d v
   pair_is values.Alone h = false≢true h
   pair_is (values.One a) h = false≢true h
   pair_is (values.Cast z s c) h = false≢true h
-  pair_is (values.Carry p a o) h = next (PairIs x d (values.Carry p a o)) (p3 (B (values.Carry p a o))) false (carry_p3 p a o) (none_more (PairIs x d (values.Carry p a o))) h
+  pair_is (values.Carry p a o) h = next (PairIs x d (values.Carry p a o)) (carrying_row (B (values.Carry p a o))) false (carrying_is p a o) (none_more (PairIs x d (values.Carry p a o))) h
   pair_is (values.Two p a o) h =
       let v : Value = values.Two p a o in
-      next (PairIs x d v) (p2 (B v)) (p7 (B v) || false) (two_p2 p a o) (next (PairIs x d v) (p7 (B v)) false (two_p7 p a o) (none_more (PairIs x d v))) h
+      next (PairIs x d v) (arithmetic_row (B v)) (wide_product_row (B v) || false) (arithmetic_is p a o) (next (PairIs x d v) (wide_product_row (B v)) false (wide_product_is p a o) (none_more (PairIs x d v))) h
 
 -- ---- what stands in the text behind two left sides
 
@@ -358,5 +358,5 @@ second_plain x v h = taken_plain v (elim (or_parts (is_rm (var_class (known_of v
 pub conditional_none : (v : Var) (o : Option BinOp) (e c : Expr) → is_inline_int (known_of v) ≡ true → Matches (conditional (lval.Var v ∷ []) o (rhs.Value e) c) → ⊥
 conditional_none v (Some o) e c i h = no_free h
 conditional_none v None e c i h =
-    next ⊥ (p14 (shapes.Conditional (dest_of (lval.Var v)) (class_of e) (has_flags c))) false
+    next ⊥ (conditional_row (shapes.Conditional (dest_of (lval.Var v)) (class_of e) (has_flags c))) false
     (λ t. false≢true (sym (var_place (known_of v) i) ∙ r_place (var_class (known_of v)) (and_parts (is_r (var_class (known_of v))) _ t).0)) (none_more ⊥) h

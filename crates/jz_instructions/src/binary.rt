@@ -80,7 +80,8 @@ pub(crate) fn carried_row(
 ) -> Option<Acts>
     ensures { let home = homes_of target.now.homes.now in
         let d = target.now.to.now in
-        FindsActs (IsCarried home target.now.size alu swaps d first.now second.now flag.now) result }
+        FindsActs (IsCarried home target.now.size alu swaps d first.now second.now flag.now)
+        result }
 {
     match flag {
         Expr::Var(var) => flagged_row(target, alu, swaps, first, second, var),

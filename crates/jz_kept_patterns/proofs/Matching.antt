@@ -14,7 +14,7 @@ use Rattle.jz_select.specs.declared.shape.Value.{Value}
 use Rattle.jz_select.specs.declared.shape.Value.TheVariants as values
 use Rattle.jz_select.specs.declared.shape.Shape as rowed
 use Rattle.jz_select.specs.declared.shape.Shape.TheVariants as shapes
-use Rattle.jz_select.specs.Rows.{is_r, is_m, is_i, is_rm, is_rmi, is_same, is_apart, is_wide, is_long, is_longest, is_below, class_size, adds, joins_bits, multiplies, swaps, computes, changes, are_inline, is_quotient, times, times_inline, masks, shifts_inline, shifts_masked, p1, p2, p3, p4, p5, p6, p8, p9, p10, p11, p12, p13}
+use Rattle.jz_select.specs.Rows.{is_r, is_m, is_i, is_rm, is_rmi, is_same, is_apart, is_wide, is_long, is_longest, is_below, class_size, adds, joins_bits, multiplies, swaps, computes, changes, are_inline, is_quotient, times, times_inline, masks, shifts_inline, shifts_masked, copy_row, arithmetic_row, carrying_row, unary_row, times_row, times_inline_row, quotient_row, inline_shift_row, masked_shift_row, zero_extension_row, sign_extension_row, truncation_row}
 use Rattle.jz_select.specs.Selected.{Row, operations, intrinsics, intrinsic_row}
 use Rattle.jz_row_laws.proofs.Booleans.{or_parts, or_left, or_right}
 use Rattle.jz_row_laws.proofs.Copied.{Matches}
@@ -71,14 +71,14 @@ module _ (d w l u : Class) (F : KeepsClass d l) (K : KeepsClass w u) where
   r_same h = same_class is_r refl d l F h
 
   -- ---- a plain copy
-  copy_kept : (v v' : Value) → p1 (S v) ≡ true → p1 (Z v') ≡ true
+  copy_kept : (v v' : Value) → copy_row (S v) ≡ true → copy_row (Z v') ≡ true
   copy_kept v v' h =
       let x = and_parts (is_rm d) (is_rmi w && not (is_m d && is_m w)) h in
       let y = and_parts (is_rmi w) (not (is_m d && is_m w)) x.1 in
       ap₂ (λ p q. is_rm p && (is_rmi q && not (is_m p && is_m q))) (rm_same x.0) (same_class is_rmi refl w u K y.0) ∙ h
 
-  pub by_copy : (v : Value) → p1 (Z v) ≡ true → Matches (Z v)
-  by_copy v h = or_left (p1 (Z v)) (list_any (λ (q : Row). q.1 (Z v)) (operations ++ map intrinsic_row intrinsics)) h
+  pub by_copy : (v : Value) → copy_row (Z v) ≡ true → Matches (Z v)
+  by_copy v h = or_left (copy_row (Z v)) (list_any (λ (q : Row). q.1 (Z v)) (operations ++ map intrinsic_row intrinsics)) h
 
   -- of an inline value
   pub inline_copy : (v : Value) → is_rm d ≡ true → is_i w ≡ true → Matches (Z v)
@@ -140,14 +140,14 @@ module _ (d w l u : Class) (F : KeepsClass d l) (K : KeepsClass w u) where
           (and_from (not (are_inline c e)) (computes sw l c e) (ap₂ (λ s t. not (is_i s && is_i t)) ca eo ∙ q.0) (computes_kept sw eo q.1))
 
       -- ---- rows of two operands
-      row2 : (p : BinOp) → p2 (S (values.Two p a o)) ≡ true → p2 (Z (values.Two p c e)) ≡ true
-      row2 p h =
+      arithmetic_row_kept : (p : BinOp) → arithmetic_row (S (values.Two p a o)) ≡ true → arithmetic_row (Z (values.Two p c e)) ≡ true
+      arithmetic_row_kept p h =
           let g : Bool = adds p || (joins_bits p && true) in
           let x = and_parts g (Sums (swaps p) d a o) h in
           and_from g (Sums (swaps p) l c e) x.0 (sums_kept (swaps p) x.1)
 
-      row3 : (p : BinOp) → p3 (S (values.Carry p a o)) ≡ true → p3 (Z (values.Carry p c e)) ≡ true
-      row3 p h = sums_kept (swaps p) h
+      carrying_row_kept : (p : BinOp) → carrying_row (S (values.Carry p a o)) ≡ true → carrying_row (Z (values.Carry p c e)) ≡ true
+      carrying_row_kept p h = sums_kept (swaps p) h
 
       pub times_kept : times d a o ≡ true → times l c e ≡ true
       times_kept h =
@@ -162,8 +162,8 @@ module _ (d w l u : Class) (F : KeepsClass d l) (K : KeepsClass w u) where
           (and_from (is_rm e.class) (computes (not (is_i c.class)) l c e) (ap is_rm eo ∙ r.0)
           (ap (λ t. computes (not (is_i t)) l c e) ca ∙ computes_kept (not (is_i a.class)) eo r.1)))
 
-      row5 : (p : BinOp) → p5 (S (values.Two p a o)) ≡ true → p5 (Z (values.Two p c e)) ≡ true
-      row5 p h = let x = and_parts (multiplies p) (times d a o) h in and_from (multiplies p) (times l c e) x.0 (times_kept x.1)
+      times_row_kept : (p : BinOp) → times_row (S (values.Two p a o)) ≡ true → times_row (Z (values.Two p c e)) ≡ true
+      times_row_kept p h = let x = and_parts (multiplies p) (times d a o) h in and_from (multiplies p) (times l c e) x.0 (times_kept x.1)
 
       pub inline_kept : times_inline d a o ≡ true → times_inline l c e ≡ true
       inline_kept h =
@@ -173,8 +173,8 @@ module _ (d w l u : Class) (F : KeepsClass d l) (K : KeepsClass w u) where
           ap (λ t. is_r t && (is_wide (class_size t) && (is_rm c.class && is_i e.class))) (r_same p.0)
           ∙ (ap₂ (λ s t. is_r d && (is_wide (class_size d) && (is_rm s && is_i t))) (same_class is_rm refl a.class c.class x.kept r.0) (same_class is_i refl o.class e.class y.kept r.1) ∙ h)
 
-      row6 : (p : BinOp) → p6 (S (values.Two p a o)) ≡ true → p6 (Z (values.Two p c e)) ≡ true
-      row6 p h = let x = and_parts (multiplies p) (times_inline d a o) h in and_from (multiplies p) (times_inline l c e) x.0 (inline_kept x.1)
+      times_inline_row_kept : (p : BinOp) → times_inline_row (S (values.Two p a o)) ≡ true → times_inline_row (Z (values.Two p c e)) ≡ true
+      times_inline_row_kept p h = let x = and_parts (multiplies p) (times_inline d a o) h in and_from (multiplies p) (times_inline l c e) x.0 (inline_kept x.1)
 
       quotient_kept : is_quotient d a o ≡ true → is_quotient l c e ≡ true
       quotient_kept h =
@@ -188,16 +188,16 @@ module _ (d w l u : Class) (F : KeepsClass d l) (K : KeepsClass w u) where
           (and_from (is_rmi c.class) (is_rm e.class && is_apart e) (ap is_rmi (rmi_first r.0) ∙ r.0)
           (and_from (is_rm e.class) (is_apart e) (ap is_rm (same_class is_rm refl o.class e.class y.kept s.0) ∙ s.0) (y.apart p.0 s.1))))
 
-      row8 : (p : BinOp) → p8 (S (values.Two p a o)) ≡ true → p8 (Z (values.Two p c e)) ≡ true
-      row8 p h = let x = and_parts (divides p) (is_quotient d a o) h in and_from (divides p) (is_quotient l c e) x.0 (quotient_kept x.1)
+      quotient_row_kept : (p : BinOp) → quotient_row (S (values.Two p a o)) ≡ true → quotient_row (Z (values.Two p c e)) ≡ true
+      quotient_row_kept p h = let x = and_parts (divides p) (is_quotient d a o) h in and_from (divides p) (is_quotient l c e) x.0 (quotient_kept x.1)
 
       pub shifts_kept : shifts_inline d a o ≡ true → shifts_inline l c e ≡ true
       shifts_kept h =
           let q = and_parts (is_i o.class) (changes d a) h in
           and_from (is_i e.class) (changes l c) (ap is_i (same_class is_i refl o.class e.class y.kept q.0) ∙ q.0) (changes_kept q.1)
 
-      row9 : (p : BinOp) → p9 (S (values.Two p a o)) ≡ true → p9 (Z (values.Two p c e)) ≡ true
-      row9 p h = let x = and_parts (is_shift p) (shifts_inline d a o) h in and_from (is_shift p) (shifts_inline l c e) x.0 (shifts_kept x.1)
+      inline_shift_row_kept : (p : BinOp) → inline_shift_row (S (values.Two p a o)) ≡ true → inline_shift_row (Z (values.Two p c e)) ≡ true
+      inline_shift_row_kept p h = let x = and_parts (is_shift p) (shifts_inline d a o) h in and_from (is_shift p) (shifts_inline l c e) x.0 (shifts_kept x.1)
 
       abbrev Longest : Option Size → Class → Class → Bool
       Longest z s t = is_longest (option_or z (option_or (class_size s) (class_size t)))
@@ -211,13 +211,13 @@ module _ (d w l u : Class) (F : KeepsClass d l) (K : KeepsClass w u) where
           and_from (masks (Longest z l c.class) e.class) (computes false l c e)
           (ap₂ (λ s t. masks (Longest z s t) e.class) le ca ∙ (ap (masks (Longest z d a.class)) eo ∙ q.0)) (computes_kept false eo q.1)
 
-      row10 : (p : BinOp) → p10 (S (values.Two p a o)) ≡ true → p10 (Z (values.Two p c e)) ≡ true
-      row10 p h =
+      masked_shift_row_kept : (p : BinOp) → masked_shift_row (S (values.Two p a o)) ≡ true → masked_shift_row (Z (values.Two p c e)) ≡ true
+      masked_shift_row_kept p h =
           let x = and_parts (is_shift p) (shifts_masked None d a o) h in
           and_from (is_shift p) (shifts_masked None l c e) x.0 (masked_kept None x.1)
 
-  row4 : (a c : Operand) → KeptOperand (is_r d) a c → p4 (S (values.One a)) ≡ true → p4 (Z (values.One c)) ≡ true
-  row4 a c x h = changes_kept a c x h
+  unary_row_kept : (a c : Operand) → KeptOperand (is_r d) a c → unary_row (S (values.One a)) ≡ true → unary_row (Z (values.One c)) ≡ true
+  unary_row_kept a c x h = changes_kept a c x h
 
   cast_row : (b : Bool) (c e : Class) (k : KeepsClass c e) (test : Class → Bool) (f : Class → Bool) → test class.Other ≡ false → (b && (is_r d && (test c && f c))) ≡ true → (b && (is_r l && (test e && f e))) ≡ true
   cast_row b c e k test f n h =
@@ -227,62 +227,62 @@ module _ (d w l u : Class) (F : KeepsClass d l) (K : KeepsClass w u) where
       ap₂ (λ s t. b && (is_r s && (test t && f t))) (r_same q.0) (same_class test n c e k r.0) ∙ h
 
   -- ---- values
-  plain_kept : (v : Value) → (p1 (S values.Alone) || false) ≡ true → Matches (Z v)
-  plain_kept v h = by_part (or_parts (p1 (S values.Alone)) false h)
+  plain_kept : (v : Value) → (copy_row (S values.Alone) || false) ≡ true → Matches (Z v)
+  plain_kept v h = by_part (or_parts (copy_row (S values.Alone)) false h)
     where
-      by_part : (p1 (S values.Alone) ≡ true) ⊎ (false ≡ true) → Matches (Z v)
+      by_part : (copy_row (S values.Alone) ≡ true) ⊎ (false ≡ true) → Matches (Z v)
       by_part (inl t) = by_copy v (copy_kept values.Alone v t)
       by_part (inr t) = absurd (false≢true t)
 
-  inner_kept : (p : BinOp) (a o : Operand) (v : Value) → (is_rmi a.class ≡ true → is_rmi o.class ≡ true → are_inline a o ≡ true) → (p1 (S (values.Carry p a o)) || (p3 (S (values.Carry p a o)) || false)) ≡ true → Matches (Z v)
-  inner_kept p a o v n h = by_part (or_parts (p1 (S (values.Carry p a o))) (p3 (S (values.Carry p a o)) || false) h)
+  inner_kept : (p : BinOp) (a o : Operand) (v : Value) → (is_rmi a.class ≡ true → is_rmi o.class ≡ true → are_inline a o ≡ true) → (copy_row (S (values.Carry p a o)) || (carrying_row (S (values.Carry p a o)) || false)) ≡ true → Matches (Z v)
+  inner_kept p a o v n h = by_part (or_parts (copy_row (S (values.Carry p a o))) (carrying_row (S (values.Carry p a o)) || false) h)
     where
-      both : p3 (S (values.Carry p a o)) ≡ true → ⊥
+      both : carrying_row (S (values.Carry p a o)) ≡ true → ⊥
       both t =
           let x = and_parts (is_rmi o.class) (not (are_inline a o) && computes (swaps p) d a o) t in
           let y = and_parts (not (are_inline a o)) (computes (swaps p) d a o) x.1 in
           let z = and_parts (is_rmi a.class) _ (and_parts (is_rm d) _ y.1).1 in
           false≢true (sym (ap not (n z.0 x.0)) ∙ y.0)
 
-      later : (p3 (S (values.Carry p a o)) ≡ true) ⊎ (false ≡ true) → Matches (Z v)
+      later : (carrying_row (S (values.Carry p a o)) ≡ true) ⊎ (false ≡ true) → Matches (Z v)
       later (inl t) = absurd (both t)
       later (inr t) = absurd (false≢true t)
 
-      by_part : (p1 (S (values.Carry p a o)) ≡ true) ⊎ ((p3 (S (values.Carry p a o)) || false) ≡ true) → Matches (Z v)
+      by_part : (copy_row (S (values.Carry p a o)) ≡ true) ⊎ ((carrying_row (S (values.Carry p a o)) || false) ≡ true) → Matches (Z v)
       by_part (inl t) = by_copy v (copy_kept (values.Carry p a o) v t)
-      by_part (inr t) = later (or_parts (p3 (S (values.Carry p a o))) false t)
+      by_part (inr t) = later (or_parts (carrying_row (S (values.Carry p a o))) false t)
 
   pub matches_kept : {v v' : Value} → ValueMeets (is_r d) v v' → Matches (S v) → Matches (Z v')
   matches_kept (m_alone v) h = plain_kept v h
   matches_kept (m_one a c x) h =
       let v = values.One a in
       let v' = values.One c in
-      next (p1 (S v)) (p4 (S v) || false) (p1 (Z v')) (p4 (Z v') || false) (copy_kept v v')
-      (next (p4 (S v)) false (p4 (Z v')) false (row4 a c x) (none false)) h
+      next (copy_row (S v)) (unary_row (S v) || false) (copy_row (Z v')) (unary_row (Z v') || false) (copy_kept v v')
+      (next (unary_row (S v)) false (unary_row (Z v')) false (unary_row_kept a c x) (none false)) h
   matches_kept (m_two p a o c e x y) h =
       let v : Value = values.Two p a o in
       let v' : Value = values.Two p c e in
-      next (p1 (S v)) (p2 (S v) || (p5 (S v) || (p6 (S v) || (p8 (S v) || (p9 (S v) || (p10 (S v) || false)))))) (p1 (Z v')) (p2 (Z v') || (p5 (Z v') || (p6 (Z v') || (p8 (Z v') || (p9 (Z v') || (p10 (Z v') || false)))))) (copy_kept v v')
-      (next (p2 (S v)) (p5 (S v) || (p6 (S v) || (p8 (S v) || (p9 (S v) || (p10 (S v) || false))))) (p2 (Z v')) (p5 (Z v') || (p6 (Z v') || (p8 (Z v') || (p9 (Z v') || (p10 (Z v') || false))))) (row2 a c x o e y p)
-      (next (p5 (S v)) (p6 (S v) || (p8 (S v) || (p9 (S v) || (p10 (S v) || false)))) (p5 (Z v')) (p6 (Z v') || (p8 (Z v') || (p9 (Z v') || (p10 (Z v') || false)))) (row5 a c x o e y p)
-      (next (p6 (S v)) (p8 (S v) || (p9 (S v) || (p10 (S v) || false))) (p6 (Z v')) (p8 (Z v') || (p9 (Z v') || (p10 (Z v') || false))) (row6 a c x o e y p)
-      (next (p8 (S v)) (p9 (S v) || (p10 (S v) || false)) (p8 (Z v')) (p9 (Z v') || (p10 (Z v') || false)) (row8 a c x o e y p)
-      (next (p9 (S v)) (p10 (S v) || false) (p9 (Z v')) (p10 (Z v') || false) (row9 a c x o e y p)
-      (next (p10 (S v)) false (p10 (Z v')) false (row10 a c x o e y p) (none false)))))))
+      next (copy_row (S v)) (arithmetic_row (S v) || (times_row (S v) || (times_inline_row (S v) || (quotient_row (S v) || (inline_shift_row (S v) || (masked_shift_row (S v) || false)))))) (copy_row (Z v')) (arithmetic_row (Z v') || (times_row (Z v') || (times_inline_row (Z v') || (quotient_row (Z v') || (inline_shift_row (Z v') || (masked_shift_row (Z v') || false)))))) (copy_kept v v')
+      (next (arithmetic_row (S v)) (times_row (S v) || (times_inline_row (S v) || (quotient_row (S v) || (inline_shift_row (S v) || (masked_shift_row (S v) || false))))) (arithmetic_row (Z v')) (times_row (Z v') || (times_inline_row (Z v') || (quotient_row (Z v') || (inline_shift_row (Z v') || (masked_shift_row (Z v') || false))))) (arithmetic_row_kept a c x o e y p)
+      (next (times_row (S v)) (times_inline_row (S v) || (quotient_row (S v) || (inline_shift_row (S v) || (masked_shift_row (S v) || false)))) (times_row (Z v')) (times_inline_row (Z v') || (quotient_row (Z v') || (inline_shift_row (Z v') || (masked_shift_row (Z v') || false)))) (times_row_kept a c x o e y p)
+      (next (times_inline_row (S v)) (quotient_row (S v) || (inline_shift_row (S v) || (masked_shift_row (S v) || false))) (times_inline_row (Z v')) (quotient_row (Z v') || (inline_shift_row (Z v') || (masked_shift_row (Z v') || false))) (times_inline_row_kept a c x o e y p)
+      (next (quotient_row (S v)) (inline_shift_row (S v) || (masked_shift_row (S v) || false)) (quotient_row (Z v')) (inline_shift_row (Z v') || (masked_shift_row (Z v') || false)) (quotient_row_kept a c x o e y p)
+      (next (inline_shift_row (S v)) (masked_shift_row (S v) || false) (inline_shift_row (Z v')) (masked_shift_row (Z v') || false) (inline_shift_row_kept a c x o e y p)
+      (next (masked_shift_row (S v)) false (masked_shift_row (Z v')) false (masked_shift_row_kept a c x o e y p) (none false)))))))
       h
   matches_kept (m_carry p a o c e x y) h =
       let v : Value = values.Carry p a o in
       let v' : Value = values.Carry p c e in
-      next (p1 (S v)) (p3 (S v) || false) (p1 (Z v')) (p3 (Z v') || false) (copy_kept v v')
-      (next (p3 (S v)) false (p3 (Z v')) false (row3 a c x o e y p) (none false)) h
+      next (copy_row (S v)) (carrying_row (S v) || false) (copy_row (Z v')) (carrying_row (Z v') || false) (copy_kept v v')
+      (next (carrying_row (S v)) false (carrying_row (Z v')) false (carrying_row_kept a c x o e y p) (none false)) h
   matches_kept (m_inner p a o v n) h = inner_kept p a o v n h
   matches_kept (m_cast z s c e k) h =
       let v : Value = values.Cast z s c in
       let v' : Value = values.Cast z s e in
-      next (p1 (S v)) (p11 (S v) || (p12 (S v) || (p13 (S v) || false))) (p1 (Z v')) (p11 (Z v') || (p12 (Z v') || (p13 (Z v') || false))) (copy_kept v v')
-      (next (p11 (S v)) (p12 (S v) || (p13 (S v) || false)) (p11 (Z v')) (p12 (Z v') || (p13 (Z v') || false)) (cast_row (not s) c e k is_rm (λ t. is_below (class_size t) z) refl)
-      (next (p12 (S v)) (p13 (S v) || false) (p12 (Z v')) (p13 (Z v') || false) (cast_row s c e k is_rm (λ t. is_below (class_size t) z) refl)
-      (next (p13 (S v)) false (p13 (Z v')) false (cast_row (not s) c e k is_r (λ t. not (is_below (class_size t) z)) refl) (none false))))
+      next (copy_row (S v)) (zero_extension_row (S v) || (sign_extension_row (S v) || (truncation_row (S v) || false))) (copy_row (Z v')) (zero_extension_row (Z v') || (sign_extension_row (Z v') || (truncation_row (Z v') || false))) (copy_kept v v')
+      (next (zero_extension_row (S v)) (sign_extension_row (S v) || (truncation_row (S v) || false)) (zero_extension_row (Z v')) (sign_extension_row (Z v') || (truncation_row (Z v') || false)) (cast_row (not s) c e k is_rm (λ t. is_below (class_size t) z) refl)
+      (next (sign_extension_row (S v)) (truncation_row (S v) || false) (sign_extension_row (Z v')) (truncation_row (Z v') || false) (cast_row s c e k is_rm (λ t. is_below (class_size t) z) refl)
+      (next (truncation_row (S v)) false (truncation_row (Z v')) false (cast_row (not s) c e k is_r (λ t. not (is_below (class_size t) z)) refl) (none false))))
       h
 
 -- ---- `r = o if c`

@@ -11,7 +11,7 @@ use Rattle.jz_select.specs.declared.shape.Value.{Value}
 use Rattle.jz_select.specs.declared.shape.Value.TheVariants as values
 use Rattle.jz_select.specs.declared.shape.Shape as rowed
 use Rattle.jz_select.specs.declared.shape.Shape.TheVariants as shapes
-use Rattle.jz_select.specs.Rows.{is_r, is_i, is_rm, is_rmi, is_skip, is_pinned, is_long, is_flag_result, class_size, adds, joins_bits, multiplies, swaps, computes, are_inline, product_size, is_product, p2, p3, p7}
+use Rattle.jz_select.specs.Rows.{is_r, is_i, is_rm, is_rmi, is_skip, is_pinned, is_long, is_flag_result, class_size, adds, joins_bits, multiplies, swaps, computes, are_inline, product_size, is_product, arithmetic_row, carrying_row, wide_product_row}
 use Rattle.jz_row_laws.proofs.Booleans.{or_parts, or_left, or_right}
 use Rattle.jz_row_laws.proofs.Copied.{Matches}
 use Rattle.jz_kept_classes.specs.Classes.{KeepsClass}
@@ -36,14 +36,14 @@ module _ (x y d w l u : Class) (X : KeepsClass x y) (F : KeepsClass d l) (K : Ke
         let k = and_parts (is_flag_result x) (Sums d w l u F K a c p o e q s d a o) h in
         and_from (is_flag_result y) (Sums d w l u F K a c p o e q s l c e) (lead_same k.0) (sums_kept d w l u F K a c p o e q s k.1)
 
-    row2 : (t : BinOp) → p2 (S (values.Two t a o)) ≡ true → p2 (Z (values.Two t c e)) ≡ true
-    row2 t h =
+    arithmetic_row_kept : (t : BinOp) → arithmetic_row (S (values.Two t a o)) ≡ true → arithmetic_row (Z (values.Two t c e)) ≡ true
+    arithmetic_row_kept t h =
         let g : Bool = adds t || (joins_bits t && false) in
         let k = and_parts g (is_flag_result x && Sums d w l u F K a c p o e q (swaps t) d a o) h in
         and_from g (is_flag_result y && Sums d w l u F K a c p o e q (swaps t) l c e) k.0 (led_kept (swaps t) k.1)
 
-    row3 : (t : BinOp) → p3 (S (values.Carry t a o)) ≡ true → p3 (Z (values.Carry t c e)) ≡ true
-    row3 t h = led_kept (swaps t) h
+    carrying_row_kept : (t : BinOp) → carrying_row (S (values.Carry t a o)) ≡ true → carrying_row (Z (values.Carry t c e)) ≡ true
+    carrying_row_kept t h = led_kept (swaps t) h
 
     -- ---- products
     abbrev low : Class → Operand → Operand → Bool
@@ -85,10 +85,10 @@ module _ (x y d w l u : Class) (X : KeepsClass x y) (F : KeepsClass d l) (K : Ke
         (and_from (is_long (product_size z y l c e)) (is_rmi c.class && (is_rm e.class && low l c e)) ((λ t. sized z (yx t) (ld t) (ca t) (eo t)) ∙ j.0)
         (and_from (is_rmi c.class) (is_rm e.class && low l c e) (ap is_rmi ca ∙ k.0) (and_from (is_rm e.class) (low l c e) (ap is_rm eo ∙ m.0) (low_kept eo m.1))))
 
-    row7 : (t : BinOp) → p7 (S (values.Two t a o)) ≡ true → p7 (Z (values.Two t c e)) ≡ true
-    row7 t h = let k = and_parts (multiplies t) (is_product None x d a o) h in and_from (multiplies t) (is_product None y l c e) k.0 (product_kept None k.1)
+    wide_product_row_kept : (t : BinOp) → wide_product_row (S (values.Two t a o)) ≡ true → wide_product_row (Z (values.Two t c e)) ≡ true
+    wide_product_row_kept t h = let k = and_parts (multiplies t) (is_product None x d a o) h in and_from (multiplies t) (is_product None y l c e) k.0 (product_kept None k.1)
 
-  inner_never : (t : BinOp) (a o : Operand) → (is_rmi a.class ≡ true → is_rmi o.class ≡ true → are_inline a o ≡ true) → p3 (S (values.Carry t a o)) ≡ true → ⊥
+  inner_never : (t : BinOp) (a o : Operand) → (is_rmi a.class ≡ true → is_rmi o.class ≡ true → are_inline a o ≡ true) → carrying_row (S (values.Carry t a o)) ≡ true → ⊥
   inner_never t a o n h =
       let i = and_parts (is_flag_result x) (is_rmi o.class && (not (are_inline a o) && computes (swaps t) d a o)) h in
       let j = and_parts (is_rmi o.class) (not (are_inline a o) && computes (swaps t) d a o) i.1 in
@@ -102,14 +102,14 @@ module _ (x y d w l u : Class) (X : KeepsClass x y) (F : KeepsClass d l) (K : Ke
   pair_kept (m_two t a o c e p q) h =
       let v : Value = values.Two t a o in
       let v' : Value = values.Two t c e in
-      next (p2 (S v)) (p7 (S v) || false) (p2 (Z v')) (p7 (Z v') || false) (row2 a c p o e q t) (next (p7 (S v)) false (p7 (Z v')) false (row7 a c p o e q t) (none false)) h
+      next (arithmetic_row (S v)) (wide_product_row (S v) || false) (arithmetic_row (Z v')) (wide_product_row (Z v') || false) (arithmetic_row_kept a c p o e q t) (next (wide_product_row (S v)) false (wide_product_row (Z v')) false (wide_product_row_kept a c p o e q t) (none false)) h
   pair_kept (m_carry t a o c e p q) h =
       let v : Value = values.Carry t a o in
       let v' : Value = values.Carry t c e in
-      next (p3 (S v)) false (p3 (Z v')) false (row3 a c p o e q t) (none false) h
-  pair_kept (m_inner t a o v n) h = by_part (or_parts (p3 (S (values.Carry t a o))) false h)
+      next (carrying_row (S v)) false (carrying_row (Z v')) false (carrying_row_kept a c p o e q t) (none false) h
+  pair_kept (m_inner t a o v n) h = by_part (or_parts (carrying_row (S (values.Carry t a o))) false h)
     where
-      by_part : (p3 (S (values.Carry t a o)) ≡ true) ⊎ (false ≡ true) → Matches (Z v)
+      by_part : (carrying_row (S (values.Carry t a o)) ≡ true) ⊎ (false ≡ true) → Matches (Z v)
       by_part (inl i) = absurd (inner_never t a o n i)
       by_part (inr i) = absurd (false≢true i)
   pair_kept (m_cast z s c e k) h = absurd (false≢true h)

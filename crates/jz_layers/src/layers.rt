@@ -119,7 +119,8 @@ impl<'a, V: Copy> Layers<'a, V> {
 
     /// Whether some cell by an index may be known of what is named.
     pub fn has_cells(&self, named: Named<'a>) -> bool
-        ensures { result ≡ false → (i : ℕ) → seen self.now (cell_at (spot_of named.entry) i) ≡ None }
+        ensures { result ≡ false
+            → (i : ℕ) → seen self.now (cell_at (spot_of named.entry) i) ≡ None }
     {
         match self.arrays.get(&named.whole()) {
             Some(_) => true,

@@ -108,6 +108,10 @@ module _ (rsp0 : ℕ) where
   abbrev pub choice_walk : List ℕ → Bool → Leak → Case → Walk
   choice_walk ns answer arm c = layer_walk (Item-F.If ns answer (leak_walk arm)) (out-Case c)
 
+  -- a `while`, by its turns
+  abbrev pub loop_walk : List Turn → Case → Walk
+  loop_walk turns c = layer_walk (Item-F.While (map turn_walk turns)) (out-Case c)
+
   -- the turns of a `while`, each by the same parts
   abbrev pub while_walk : List Turn → Loop → Walk
   while_walk turns loop = turns_walk (map turn_walk turns) loop

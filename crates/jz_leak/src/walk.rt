@@ -5,7 +5,7 @@ ghost use Rattle.jz_words.specs.declared.size.Size.TheVariants.{S64};
 ghost use Rattle.jz_words.specs.Words.{residue};
 ghost use Rattle.jz_leak.specs.Applying.{number_of, event_of, events_for};
 ghost use Rattle.jz_leak.specs.Shown.{AreEventsOf, ShowsFitting};
-ghost use Rattle.jz_leak.specs.InnerWalks.{Adds, arm_walk, call_walk, choice_walk, item_walk, leak_walk, loop_of, rounds_walk, turn_walk, while_walk};
+ghost use Rattle.jz_leak.specs.InnerWalks.{Adds, arm_walk, call_walk, choice_walk, item_walk, leak_walk, loop_of, loop_walk, rounds_walk, turn_walk, while_walk};
 
 use crate::event::{Event, Events};
 use crate::leak::{Item, Leak, Turn};
@@ -134,27 +134,7 @@ fn walk_item(
             _ => Ok(Reach::Stop),
         },
         Item::If(numbers, answer, arm) => walk_choice(events, rsp, numbers, *answer, arm, case),
-        Item::While(turns) => match case {
-            Case::While {
-                prologue,
-                test,
-                more_outs,
-                body,
-                leave_outs,
-            } => walk_turns(
-                events,
-                rsp,
-                turns,
-                &LoopParts {
-                    prologue,
-                    test,
-                    more_outs,
-                    body,
-                    leave_outs,
-                },
-            ),
-            _ => Ok(Reach::Stop),
-        },
+        Item::While(turns) => walk_while(events, rsp, turns, case),
         Item::For(rounds) => match case {
             Case::For(trs) => walk_rounds(events, rsp, rounds, trs),
             _ => Ok(Reach::Stop),
@@ -193,6 +173,40 @@ fn walk_choice(
                 walk_arm(events, rsp, numbers, else_outs, arm, else_tr)
             }
         }
+        _ => Ok(Reach::Stop),
+    }
+}
+
+/// The events of a `while`, its turns by the parts of its case.
+#[cycle(walk)]
+fn walk_while(
+    events: &mut Vec<Event>,
+    rsp: u64,
+    turns: &Seq<Turn>,
+    case: &Case,
+) -> Result<Reach, AllocError>
+    ensures { IfOk result (Adds events.old.items events.new.items
+        (loop_walk rsp turns.now case.now)) }
+{
+    match case {
+        Case::While {
+            prologue,
+            test,
+            more_outs,
+            body,
+            leave_outs,
+        } => walk_turns(
+            events,
+            rsp,
+            turns,
+            &LoopParts {
+                prologue,
+                test,
+                more_outs,
+                body,
+                leave_outs,
+            },
+        ),
         _ => Ok(Reach::Stop),
     }
 }

@@ -22,8 +22,10 @@ fn carried_value(
     inner: &Expr,
     flag: &Expr,
 ) -> Result<Option<Constant>, AllocError>
-    ensures { let first = integers.joined ops.0 before (integers.inline_value (numbers_of numbers.now) inner.now) in
-        let value = integers.joined ops.1 first (integers.inline_value (numbers_of numbers.now) flag.now) in
+    ensures { let first = integers.joined ops.0 before
+        (integers.inline_value (numbers_of numbers.now) inner.now) in
+        let value = integers.joined ops.1 first
+        (integers.inline_value (numbers_of numbers.now) flag.now) in
         IfOk result (λ v. v ≡ value) }
 {
     let first = joined(ops.0, before, inline_value(alloc, numbers, inner)?);

@@ -78,7 +78,8 @@ pub fn ask_value(
 ) -> Result<Firsts, AllocError>
     ensures { let free = asks.is_free register op value.now in
         let wanted = option_or size (own_size value.now) in
-        let parts = asks.value_as (numbers_of numbers.now) free (asks.value_role op) wanted value.now in
+        let parts = asks.value_as (numbers_of numbers.now) free (asks.value_role op) wanted
+        value.now in
         IfOk result (λ firsts. firsts ≡ firsts_of parts) }
 {
     let wanted = size.or(own_size(value));

@@ -229,13 +229,7 @@ fn lower_kind(lowerer: &Lowerer<'_>, span: Span, kind: &StmtKind) -> Result<Lowe
                 Ok(made)
             }
         },
-        StmtKind::For {
-            counter: _,
-            from: _,
-            down: _,
-            to: _,
-            body: _,
-        } => Err(Failure::Refused(span)),
+        StmtKind::For { .. } => Err(Failure::Refused(span)),
         StmtKind::Mark(_) => Ok(nothing(lowerer.alloc)),
     }
 }

@@ -27,7 +27,7 @@ use Rattle.jz_select.specs.declared.class.Operand.{Operand}
 use Rattle.jz_select.specs.declared.shape.Value.TheVariants as values
 use Rattle.jz_select.specs.declared.shape.Shape.TheVariants as shapes
 use Rattle.jz_select.specs.Operands.{class_of, dest_of}
-use Rattle.jz_select.specs.Rows.{is_rm, is_flag, p1}
+use Rattle.jz_select.specs.Rows.{is_rm, is_flag, copy_row}
 use Rattle.jz_select.specs.Shapes.{Asked, whichever, itself, beside, update_layer, value_shape, conditional, kind_layer}
 use Rattle.jz_type_names.specs.declared.kinds.Kind as known
 use Rattle.jz_type_names.specs.declared.kinds.Kind.TheVariants as scope
@@ -56,10 +56,10 @@ use Rattle.jz_ready.proofs.FixedParts.{NoJoin}
 
 -- ---- rows
 
-first_only : (d : Class) (a o : Operand) (p : BinOp) → (p1 (shapes.Assign None d class.Other (values.Two p a o)) || false) ≡ true → ⊥
-first_only d a o p h = by_part (or_parts (p1 (shapes.Assign None d class.Other (values.Two p a o))) false h)
+first_only : (d : Class) (a o : Operand) (p : BinOp) → (copy_row (shapes.Assign None d class.Other (values.Two p a o)) || false) ≡ true → ⊥
+first_only d a o p h = by_part (or_parts (copy_row (shapes.Assign None d class.Other (values.Two p a o))) false h)
   where
-    by_part : (p1 (shapes.Assign None d class.Other (values.Two p a o)) ≡ true) ⊎ (false ≡ true) → ⊥
+    by_part : (copy_row (shapes.Assign None d class.Other (values.Two p a o)) ≡ true) ⊎ (false ≡ true) → ⊥
     by_part (inl t) = false≢true (and_parts (is_rm d) _ t).1
     by_part (inr t) = false≢true t
 

@@ -16,7 +16,7 @@ use Rattle.jz_select.specs.declared.shape.Value.TheVariants as values
 use Rattle.jz_select.specs.declared.shape.Shape as rowed
 use Rattle.jz_select.specs.declared.shape.Shape.TheVariants as shapes
 use Rattle.jz_select.specs.Operands.{class_of, dest_of}
-use Rattle.jz_select.specs.Rows.{is_r, is_rm, is_rmi, is_skip, is_flag, is_flag_result, is_pinned, is_long, may_lead, are_inline, adds, joins_bits, multiplies, computes, product_size, p2, p3, p7}
+use Rattle.jz_select.specs.Rows.{is_r, is_rm, is_rmi, is_skip, is_flag, is_flag_result, is_pinned, is_long, may_lead, are_inline, adds, joins_bits, multiplies, computes, product_size, arithmetic_row, carrying_row, wide_product_row}
 use Rattle.jz_select.specs.Shapes.{Asked, beside, first_of, carry_layer, value_layer, assign_of}
 use Rattle.jz_judgement.specs.HasType.{Layer}
 use Rattle.jz_row_laws.proofs.Booleans.{or_left, or_right, or_parts}
@@ -49,7 +49,7 @@ module _ (x d w : Class) where
       let n = and_parts (is_rm d) _ m.1 in
       record { lead = l.0; to = n.0; first = (and_parts (is_rmi a.class) _ n.1).0; second = r.0; apart = denied (are_inline a o) m.0 }
 
-  sum_row : (p : BinOp) (a o : Operand) → p2 (B (values.Two p a o)) ≡ true → (adds p ≡ true) × IsSumRow x d a o
+  sum_row : (p : BinOp) (a o : Operand) → arithmetic_row (B (values.Two p a o)) ≡ true → (adds p ≡ true) × IsSumRow x d a o
   sum_row p a o h =
       let y = and_parts (adds p || (joins_bits p && false)) _ h in
       (only_adds (or_parts (adds p) (joins_bits p && false) y.0), sums_row _ a o y.1)
@@ -65,7 +65,7 @@ module _ (x d w : Class) where
       by_part (inl t) = or_right (is_r d) (is_skip d) t
       by_part (inr t) = or_left (is_r d) (is_skip d) (and_parts (is_r d) r t).0
 
-  product_row : (p : BinOp) (a b : Operand) → p7 (B (values.Two p a b)) ≡ true → IsProductRow x d p a b
+  product_row : (p : BinOp) (a b : Operand) → wide_product_row (B (values.Two p a b)) ≡ true → IsProductRow x d p a b
   product_row p a b h =
       let y = and_parts (multiplies p) _ h in
       let k = and_parts (is_pinned x) _ y.1 in
@@ -74,17 +74,17 @@ module _ (x d w : Class) where
       let n = and_parts (is_rm b.class) _ m.1 in
       record { multiplying = y.0; high = k.0; low = low_word _ n.1; long = l.0; first = m.0; second = rm_class b.class n.0; read = n.0 }
 
-  carry_row : (p : BinOp) (a o : Operand) → p3 (B (values.Carry p a o)) ≡ true → IsSumRow x d a o
+  carry_row : (p : BinOp) (a o : Operand) → carrying_row (B (values.Carry p a o)) ≡ true → IsSumRow x d a o
   carry_row p a o h = sums_row _ a o h
 
   pub pair_fits : (v : Value) → Matches (B v) → PairFits x d v
   pair_fits values.Alone h = false≢true h
   pair_fits (values.One a) h = false≢true h
   pair_fits (values.Cast z s c) h = false≢true h
-  pair_fits (values.Carry p a o) h = next (PairFits x d (values.Carry p a o)) (p3 (B (values.Carry p a o))) false (carry_row p a o) (none_more (PairFits x d (values.Carry p a o))) h
+  pair_fits (values.Carry p a o) h = next (PairFits x d (values.Carry p a o)) (carrying_row (B (values.Carry p a o))) false (carry_row p a o) (none_more (PairFits x d (values.Carry p a o))) h
   pair_fits (values.Two p a o) h =
       let v : Value = values.Two p a o in
-      next (PairFits x d v) (p2 (B v)) (p7 (B v) || false) (λ t. inl (sum_row p a o t)) (next (PairFits x d v) (p7 (B v)) false (λ t. inr (product_row p a o t)) (none_more (PairFits x d v))) h
+      next (PairFits x d v) (arithmetic_row (B v)) (wide_product_row (B v) || false) (λ t. inl (sum_row p a o t)) (next (PairFits x d v) (wide_product_row (B v)) false (λ t. inr (product_row p a o t)) (none_more (PairFits x d v))) h
 
 -- ---- of `x, d = e`
 pub data PairRow (x d : Class) (e : Expr) : Type 0 where

@@ -25,7 +25,7 @@ use Rattle.jz_select.specs.Look.{terms_of}
 use Rattle.jz_select.specs.Sums.{is_sum}
 use Rattle.jz_select.specs.Places.{Answers}
 use Rattle.jz_select.specs.Operands.{class_of, dest_of}
-use Rattle.jz_select.specs.Rows.{is_r, is_rm, is_wide, is_longest, class_size, p14}
+use Rattle.jz_select.specs.Rows.{is_r, is_rm, is_wide, is_longest, class_size, conditional_row}
 use Rattle.std.specs.Option.{option_or}
 use Rattle.jz_select.specs.Shapes.{whichever, has_flags, is_test, value_layer, update_layer, value_behind, address_shape, intrinsic_shape, named_shape, kind_layer}
 use Rattle.jz_row_laws.proofs.Copied.{Matches, selected_matches, no_free}
@@ -53,7 +53,7 @@ or_false false h = absurd (false≢true h)
 
 chosen : (d : Lval) (e c : Expr) → Matches (shapes.Conditional (dest_of d) (class_of e) (has_flags c)) → IsChosen d e c
 chosen d e c m =
-    let h : p14 (shapes.Conditional (dest_of d) (class_of e) (has_flags c)) ≡ true = or_false (p14 (shapes.Conditional (dest_of d) (class_of e) (has_flags c))) m in
+    let h : conditional_row (shapes.Conditional (dest_of d) (class_of e) (has_flags c)) ≡ true = or_false (conditional_row (shapes.Conditional (dest_of d) (class_of e) (has_flags c))) m in
     let p = and_parts (is_r (dest_of d)) _ h in
     let q = and_parts (is_wide (class_size (dest_of d))) _ p.1 in
     let r = and_parts (is_rm (class_of e)) (has_flags c) q.1 in

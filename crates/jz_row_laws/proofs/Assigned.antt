@@ -26,7 +26,7 @@ use Rattle.jz_select.specs.declared.shape.Shape.TheVariants as shapes
 use Rattle.jz_select.specs.Sums.{is_address, is_index}
 use Rattle.jz_select.specs.Look.{look_of, terms_of}
 use Rattle.jz_select.specs.Operands.{cell_of, class_of, dest_of}
-use Rattle.jz_select.specs.Rows.{is_r, is_i, is_rm, is_rmi, is_flag, is_skip, is_flag_result, is_pinned, may_lead, is_alone, adds, joins_bits, multiplies, masks, p1, p2, p3, p4, p5, p6, p7, p8, p9, p10, p11, p12, p13}
+use Rattle.jz_select.specs.Rows.{is_r, is_i, is_rm, is_rmi, is_flag, is_skip, is_flag_result, is_pinned, may_lead, is_alone, adds, joins_bits, multiplies, masks, copy_row, arithmetic_row, carrying_row, unary_row, times_row, times_inline_row, wide_product_row, quotient_row, inline_shift_row, masked_shift_row, zero_extension_row, sign_extension_row, truncation_row}
 use Rattle.jz_select.specs.Shapes.{Asked, itself, beside, value_layer, update_layer, assign_of, value_shape}
 use Rattle.jz_meaning.specs.Shapes.{Sorts}
 use Rattle.jz_row_laws.proofs.Booleans.{or_left, or_right, or_parts}
@@ -114,8 +114,8 @@ module _ (lead : Option Class) (d w : Class) where
   r_fine : is_r d ≡ true → fine d ≡ true
   r_fine h = fine_class d (r_class d h)
 
-  by_p2 : (p : BinOp) (a o : Operand) → p2 (S (values.Two p a o)) ≡ true → Fits lead d w (values.Two p a o)
-  by_p2 p a o h =
+  by_arithmetic : (p : BinOp) (a o : Operand) → arithmetic_row (S (values.Two p a o)) ≡ true → Fits lead d w (values.Two p a o)
+  by_arithmetic p a o h =
       let x = and_parts (adds p || (joins_bits p && is_alone lead)) _ h in
       let l = and_parts (may_lead lead) _ x.1 in
       let y = and_parts (is_rmi o.class) _ l.1 in
@@ -123,8 +123,8 @@ module _ (lead : Option Class) (d w : Class) where
       let m = and_parts (is_rm d) _ z.1 in
       (inr (sum_join p (is_alone lead) x.0, (and_parts (is_rmi a.class) _ m.1).0, inl y.0), (rm_fine m.0, fine_lead lead l.0))
 
-  by_p3 : (p : BinOp) (a o : Operand) → p3 (S (values.Carry p a o)) ≡ true → Fits lead d w (values.Carry p a o)
-  by_p3 p a o h =
+  by_carrying : (p : BinOp) (a o : Operand) → carrying_row (S (values.Carry p a o)) ≡ true → Fits lead d w (values.Carry p a o)
+  by_carrying p a o h =
       let l = and_parts (may_lead lead) _ h in
       let y = and_parts (is_rmi o.class) _ l.1 in
       let z = and_parts _ _ y.1 in
@@ -149,89 +149,89 @@ module _ (d w : Class) where
   abbrev G : Value → Type 0
   G v = Fits None d w v
 
-  by_p1 : (v : Value) → (HasClass w → Fit w v) → p1 (A v) ≡ true → G v
-  by_p1 v f h =
+  by_copy : (v : Value) → (HasClass w → Fit w v) → copy_row (A v) ≡ true → G v
+  by_copy v f h =
       let x = and_parts (is_rm d) _ h in
       (f (and_parts (is_rmi w) _ x.1).0, (fine_class d (rm_class d x.0), tt))
 
-  by_p4 : (a : Operand) → p4 (A (values.One a)) ≡ true → G (values.One a)
-  by_p4 a h = let x = and_parts (is_rm d) _ h in (inr (and_parts (is_rmi a.class) _ x.1).0, (fine_class d (rm_class d x.0), tt))
+  by_unary : (a : Operand) → unary_row (A (values.One a)) ≡ true → G (values.One a)
+  by_unary a h = let x = and_parts (is_rm d) _ h in (inr (and_parts (is_rmi a.class) _ x.1).0, (fine_class d (rm_class d x.0), tt))
 
-  by_p5 : (p : BinOp) (a o : Operand) → p5 (A (values.Two p a o)) ≡ true → G (values.Two p a o)
-  by_p5 p a o h =
+  by_times : (p : BinOp) (a o : Operand) → times_row (A (values.Two p a o)) ≡ true → G (values.Two p a o)
+  by_times p a o h =
       let x = and_parts (multiplies p) _ h in
       let r = and_parts (is_r d) _ x.1 in
       let z = and_parts (is_rm o.class) _ (and_parts _ _ r.1).1 in
       let m = and_parts (is_rm d) _ z.1 in
       (inr (product_join p x.0, (and_parts (is_rmi a.class) _ m.1).0, inl (rm_class o.class z.0)), (fine_class d (r_class d r.0), tt))
 
-  by_p6 : (p : BinOp) (a o : Operand) → p6 (A (values.Two p a o)) ≡ true → G (values.Two p a o)
-  by_p6 p a o h =
+  by_times_inline : (p : BinOp) (a o : Operand) → times_inline_row (A (values.Two p a o)) ≡ true → G (values.Two p a o)
+  by_times_inline p a o h =
       let x = and_parts (multiplies p) _ h in
       let r = and_parts (is_r d) _ x.1 in
       let z = and_parts (is_rm a.class) (is_i o.class) (and_parts _ _ r.1).1 in
       (inr (product_join p x.0, rm_class a.class z.0, inl (i_class o.class z.1)), (fine_class d (r_class d r.0), tt))
 
-  by_p8 : (p : BinOp) (a o : Operand) → p8 (A (values.Two p a o)) ≡ true → G (values.Two p a o)
-  by_p8 p a o h =
+  by_quotient : (p : BinOp) (a o : Operand) → quotient_row (A (values.Two p a o)) ≡ true → G (values.Two p a o)
+  by_quotient p a o h =
       let x = and_parts (divides p) _ h in
       let r = and_parts (is_r d) _ x.1 in
       let z = and_parts (is_rmi a.class) _ (and_parts _ _ r.1).1 in
       (inr (quotient_join p x.0, z.0, inl (rm_class o.class (and_parts (is_rm o.class) _ z.1).0)), (fine_class d (r_class d r.0), tt))
 
-  by_p9 : (p : BinOp) (a o : Operand) → p9 (A (values.Two p a o)) ≡ true → G (values.Two p a o)
-  by_p9 p a o h =
+  by_inline_shift : (p : BinOp) (a o : Operand) → inline_shift_row (A (values.Two p a o)) ≡ true → G (values.Two p a o)
+  by_inline_shift p a o h =
       let x = and_parts (is_shift p) _ h in
       let y = and_parts (is_i o.class) _ x.1 in
       let m = and_parts (is_rm d) _ y.1 in
       (inr (shift_join p x.0, (and_parts (is_rmi a.class) _ m.1).0, inl (i_class o.class y.0)), (fine_class d (rm_class d m.0), tt))
 
-  by_p10 : (p : BinOp) (a o : Operand) → p10 (A (values.Two p a o)) ≡ true → G (values.Two p a o)
-  by_p10 p a o h =
+  by_masked_shift : (p : BinOp) (a o : Operand) → masked_shift_row (A (values.Two p a o)) ≡ true → G (values.Two p a o)
+  by_masked_shift p a o h =
       let x = and_parts (is_shift p) _ h in
       let y = and_parts (masks _ o.class) _ x.1 in
       let m = and_parts (is_rm d) _ y.1 in
       (inr (shift_join p x.0, (and_parts (is_rmi a.class) _ m.1).0, inr (masks_mask _ o.class y.0)), (fine_class d (rm_class d m.0), tt))
 
-  by_p11 : (z : Size) (s : Bool) (c : Class) → p11 (A (values.Cast z s c)) ≡ true → G (values.Cast z s c)
-  by_p11 z s c h =
+  by_zero_extension : (z : Size) (s : Bool) (c : Class) → zero_extension_row (A (values.Cast z s c)) ≡ true → G (values.Cast z s c)
+  by_zero_extension z s c h =
       let r = and_parts (is_r d) _ (and_parts (not s) _ h).1 in
       (inr (rm_class c (and_parts (is_rm c) _ r.1).0), (fine_class d (r_class d r.0), tt))
 
-  by_p12 : (z : Size) (s : Bool) (c : Class) → p12 (A (values.Cast z s c)) ≡ true → G (values.Cast z s c)
-  by_p12 z s c h =
+  by_sign_extension : (z : Size) (s : Bool) (c : Class) → sign_extension_row (A (values.Cast z s c)) ≡ true → G (values.Cast z s c)
+  by_sign_extension z s c h =
       let r = and_parts (is_r d) _ (and_parts s _ h).1 in
       (inr (rm_class c (and_parts (is_rm c) _ r.1).0), (fine_class d (r_class d r.0), tt))
 
-  by_p13 : (z : Size) (s : Bool) (c : Class) → p13 (A (values.Cast z s c)) ≡ true → G (values.Cast z s c)
-  by_p13 z s c h =
+  by_truncation : (z : Size) (s : Bool) (c : Class) → truncation_row (A (values.Cast z s c)) ≡ true → G (values.Cast z s c)
+  by_truncation z s c h =
       let r = and_parts (is_r d) _ (and_parts (not s) _ h).1 in
       (inr (r_class c (and_parts (is_r c) _ r.1).0), (fine_class d (r_class d r.0), tt))
 
   fits_alone : (v : Value) → Matches (A v) → G v
-  fits_alone values.Alone h = let v = values.Alone in next (G v) (p1 (A v)) false (by_p1 v (λ k. k)) (none_more (G v)) h
+  fits_alone values.Alone h = let v = values.Alone in next (G v) (copy_row (A v)) false (by_copy v (λ k. k)) (none_more (G v)) h
   fits_alone (values.One a) h =
       let v : Value = values.One a in
-      next (G v) (p1 (A v)) (p4 (A v) || false) (by_p1 v inl) (next (G v) (p4 (A v)) false (by_p4 a) (none_more (G v))) h
+      next (G v) (copy_row (A v)) (unary_row (A v) || false) (by_copy v inl) (next (G v) (unary_row (A v)) false (by_unary a) (none_more (G v))) h
   fits_alone (values.Two p a o) h =
       let v : Value = values.Two p a o in
-      next (G v) (p1 (A v)) (p2 (A v) || (p5 (A v) || (p6 (A v) || (p8 (A v) || (p9 (A v) || (p10 (A v) || false)))))) (by_p1 v inl)
-      (next (G v) (p2 (A v)) (p5 (A v) || (p6 (A v) || (p8 (A v) || (p9 (A v) || (p10 (A v) || false))))) (by_p2 None d w p a o)
-      (next (G v) (p5 (A v)) (p6 (A v) || (p8 (A v) || (p9 (A v) || (p10 (A v) || false)))) (by_p5 p a o)
-      (next (G v) (p6 (A v)) (p8 (A v) || (p9 (A v) || (p10 (A v) || false))) (by_p6 p a o)
-      (next (G v) (p8 (A v)) (p9 (A v) || (p10 (A v) || false)) (by_p8 p a o)
-      (next (G v) (p9 (A v)) (p10 (A v) || false) (by_p9 p a o)
-      (next (G v) (p10 (A v)) false (by_p10 p a o) (none_more (G v))))))))
+      next (G v) (copy_row (A v)) (arithmetic_row (A v) || (times_row (A v) || (times_inline_row (A v) || (quotient_row (A v) || (inline_shift_row (A v) || (masked_shift_row (A v) || false)))))) (by_copy v inl)
+      (next (G v) (arithmetic_row (A v)) (times_row (A v) || (times_inline_row (A v) || (quotient_row (A v) || (inline_shift_row (A v) || (masked_shift_row (A v) || false))))) (by_arithmetic None d w p a o)
+      (next (G v) (times_row (A v)) (times_inline_row (A v) || (quotient_row (A v) || (inline_shift_row (A v) || (masked_shift_row (A v) || false)))) (by_times p a o)
+      (next (G v) (times_inline_row (A v)) (quotient_row (A v) || (inline_shift_row (A v) || (masked_shift_row (A v) || false))) (by_times_inline p a o)
+      (next (G v) (quotient_row (A v)) (inline_shift_row (A v) || (masked_shift_row (A v) || false)) (by_quotient p a o)
+      (next (G v) (inline_shift_row (A v)) (masked_shift_row (A v) || false) (by_inline_shift p a o)
+      (next (G v) (masked_shift_row (A v)) false (by_masked_shift p a o) (none_more (G v))))))))
       h
   fits_alone (values.Carry p a o) h =
       let v : Value = values.Carry p a o in
-      next (G v) (p1 (A v)) (p3 (A v) || false) (by_p1 v inl) (next (G v) (p3 (A v)) false (by_p3 None d w p a o) (none_more (G v))) h
+      next (G v) (copy_row (A v)) (carrying_row (A v) || false) (by_copy v inl) (next (G v) (carrying_row (A v)) false (by_carrying None d w p a o) (none_more (G v))) h
   fits_alone (values.Cast z s c) h =
       let v : Value = values.Cast z s c in
-      next (G v) (p1 (A v)) (p11 (A v) || (p12 (A v) || (p13 (A v) || false))) (by_p1 v inl)
-      (next (G v) (p11 (A v)) (p12 (A v) || (p13 (A v) || false)) (by_p11 z s c)
-      (next (G v) (p12 (A v)) (p13 (A v) || false) (by_p12 z s c)
-      (next (G v) (p13 (A v)) false (by_p13 z s c) (none_more (G v)))))
+      next (G v) (copy_row (A v)) (zero_extension_row (A v) || (sign_extension_row (A v) || (truncation_row (A v) || false))) (by_copy v inl)
+      (next (G v) (zero_extension_row (A v)) (sign_extension_row (A v) || (truncation_row (A v) || false)) (by_zero_extension z s c)
+      (next (G v) (sign_extension_row (A v)) (truncation_row (A v) || false) (by_sign_extension z s c)
+      (next (G v) (truncation_row (A v)) false (by_truncation z s c) (none_more (G v)))))
       h
 
 -- ---- behind a flag or the high word
@@ -246,8 +246,8 @@ module _ (x d w : Class) where
   low_fine r true f e h = or_right (is_rmi d) (is_flag d || is_skip d) (or_right (is_flag d) (is_skip d) e)
   low_fine r false f e h = f h
 
-  by_p7 : (p : BinOp) (a b : Operand) → p7 (B (values.Two p a b)) ≡ true → J (values.Two p a b)
-  by_p7 p a b h =
+  by_wide_product : (p : BinOp) (a b : Operand) → wide_product_row (B (values.Two p a b)) ≡ true → J (values.Two p a b)
+  by_wide_product p a b h =
       let y = and_parts (multiplies p) _ h in
       let k = and_parts (is_pinned x) _ y.1 in
       let m = and_parts (is_rmi a.class) _ (and_parts _ _ k.1).1 in
@@ -260,10 +260,10 @@ module _ (x d w : Class) where
   fits_behind values.Alone h = absurd (false≢true h)
   fits_behind (values.One a) h = absurd (false≢true h)
   fits_behind (values.Cast z s c) h = absurd (false≢true h)
-  fits_behind (values.Carry p a o) h = let v : Value = values.Carry p a o in next (J v) (p3 (B v)) false (by_p3 (Some x) d w p a o) (none_more (J v)) h
+  fits_behind (values.Carry p a o) h = let v : Value = values.Carry p a o in next (J v) (carrying_row (B v)) false (by_carrying (Some x) d w p a o) (none_more (J v)) h
   fits_behind (values.Two p a o) h =
       let v : Value = values.Two p a o in
-      next (J v) (p2 (B v)) (p7 (B v) || false) (by_p2 (Some x) d w p a o) (next (J v) (p7 (B v)) false (by_p7 p a o) (none_more (J v))) h
+      next (J v) (arithmetic_row (B v)) (wide_product_row (B v) || false) (by_arithmetic (Some x) d w p a o) (next (J v) (wide_product_row (B v)) false (by_wide_product p a o) (none_more (J v))) h
 
 -- ---- the expressions
 module _ (sorts : Sorts) (asked : Asked) where

@@ -31,7 +31,7 @@ use Rattle.jz_select.specs.declared.shape.Shape.TheVariants as shapes
 use Rattle.jz_select.specs.Sums.{is_address, is_index}
 use Rattle.jz_select.specs.Look.{look_of, terms_of, bin_inline}
 use Rattle.jz_select.specs.Operands.{inline_or, mask_of, is_byte, register_layer, masked_class, class_layer, class_of, dest_of}
-use Rattle.jz_select.specs.Rows.{is_r, is_m, is_i, is_rm, is_rmi, is_flag, adds, joins_bits, multiplies, masks, p1, p2, p3, p4, p5, p6, p8, p9, p10, p11, p12, p13}
+use Rattle.jz_select.specs.Rows.{is_r, is_m, is_i, is_rm, is_rmi, is_flag, adds, joins_bits, multiplies, masks, copy_row, arithmetic_row, carrying_row, unary_row, times_row, times_inline_row, quotient_row, inline_shift_row, masked_shift_row, zero_extension_row, sign_extension_row, truncation_row}
 use Rattle.jz_select.specs.Places.{Answers}
 use Rattle.jz_select.specs.Shapes.{Asked, whichever, beside, carry_layer, two_beside, value_layer, assign_of, shape_of}
 use Rattle.jz_select.specs.Selected.{Row, rows, FirstMatches, Tells, IsSelected, IsCopied}
@@ -87,8 +87,8 @@ Fit w (values.Two p a o) = HasClass w ⊎ ((joins p ≡ false) × HasClass a.cla
 Fit w (values.Carry p a o) = HasClass w ⊎ (HasClass a.class × HasClass o.class)
 Fit w (values.Cast z signed c) = HasClass w ⊎ HasClass c
 
-by_p1 : (d w : Class) (v : Value) → p1 (shapes.Assign None d w v) ≡ true → HasClass w
-by_p1 d w v h = (and_parts (is_rmi w) _ (and_parts (is_rm d) _ h).1).0
+by_copy : (d w : Class) (v : Value) → copy_row (shapes.Assign None d w v) ≡ true → HasClass w
+by_copy d w v h = (and_parts (is_rmi w) _ (and_parts (is_rm d) _ h).1).0
 
 -- the operation gives no truth
 sum_join : (p : BinOp) → (adds p || (joins_bits p && true)) ≡ true → joins p ≡ false
@@ -124,70 +124,70 @@ module _ (d w : Class) where
   abbrev S : Value → rowed.Shape
   S v = shapes.Assign None d w v
 
-  by_p2 : (p : BinOp) (a o : Operand) → p2 (S (values.Two p a o)) ≡ true → Fit w (values.Two p a o)
-  by_p2 p a o h =
+  by_arithmetic : (p : BinOp) (a o : Operand) → arithmetic_row (S (values.Two p a o)) ≡ true → Fit w (values.Two p a o)
+  by_arithmetic p a o h =
       let x = and_parts (adds p || (joins_bits p && true)) _ h in
       let y = and_parts (is_rmi o.class) _ x.1 in
       let z = and_parts _ _ y.1 in
       inr (sum_join p x.0, (and_parts (is_rmi a.class) _ (and_parts (is_rm d) _ z.1).1).0, inl y.0)
 
-  by_p5 : (p : BinOp) (a o : Operand) → p5 (S (values.Two p a o)) ≡ true → Fit w (values.Two p a o)
-  by_p5 p a o h =
+  by_times : (p : BinOp) (a o : Operand) → times_row (S (values.Two p a o)) ≡ true → Fit w (values.Two p a o)
+  by_times p a o h =
       let x = and_parts (multiplies p) _ h in
       let y = and_parts _ _ (and_parts (is_r d) _ x.1).1 in
       let z = and_parts (is_rm o.class) _ y.1 in
       inr (product_join p x.0, (and_parts (is_rmi a.class) _ (and_parts (is_rm d) _ z.1).1).0, inl (rm_class o.class z.0))
 
-  by_p6 : (p : BinOp) (a o : Operand) → p6 (S (values.Two p a o)) ≡ true → Fit w (values.Two p a o)
-  by_p6 p a o h =
+  by_times_inline : (p : BinOp) (a o : Operand) → times_inline_row (S (values.Two p a o)) ≡ true → Fit w (values.Two p a o)
+  by_times_inline p a o h =
       let x = and_parts (multiplies p) _ h in
       let y = and_parts _ _ (and_parts (is_r d) _ x.1).1 in
       let z = and_parts (is_rm a.class) (is_i o.class) y.1 in
       inr (product_join p x.0, rm_class a.class z.0, inl (i_class o.class z.1))
 
-  by_p8 : (p : BinOp) (a o : Operand) → p8 (S (values.Two p a o)) ≡ true → Fit w (values.Two p a o)
-  by_p8 p a o h =
+  by_quotient : (p : BinOp) (a o : Operand) → quotient_row (S (values.Two p a o)) ≡ true → Fit w (values.Two p a o)
+  by_quotient p a o h =
       let x = and_parts (divides p) _ h in
       let y = and_parts _ _ (and_parts (is_r d) _ x.1).1 in
       let z = and_parts (is_rmi a.class) _ y.1 in
       inr (quotient_join p x.0, z.0, inl (rm_class o.class (and_parts (is_rm o.class) _ z.1).0))
 
-  by_p9 : (p : BinOp) (a o : Operand) → p9 (S (values.Two p a o)) ≡ true → Fit w (values.Two p a o)
-  by_p9 p a o h =
+  by_inline_shift : (p : BinOp) (a o : Operand) → inline_shift_row (S (values.Two p a o)) ≡ true → Fit w (values.Two p a o)
+  by_inline_shift p a o h =
       let x = and_parts (is_shift p) _ h in
       let y = and_parts (is_i o.class) _ x.1 in
       inr (shift_join p x.0, (and_parts (is_rmi a.class) _ (and_parts (is_rm d) _ y.1).1).0, inl (i_class o.class y.0))
 
-  by_p10 : (p : BinOp) (a o : Operand) → p10 (S (values.Two p a o)) ≡ true → Fit w (values.Two p a o)
-  by_p10 p a o h =
+  by_masked_shift : (p : BinOp) (a o : Operand) → masked_shift_row (S (values.Two p a o)) ≡ true → Fit w (values.Two p a o)
+  by_masked_shift p a o h =
       let x = and_parts (is_shift p) _ h in
       let y = and_parts (masks _ o.class) _ x.1 in
       inr (shift_join p x.0, (and_parts (is_rmi a.class) _ (and_parts (is_rm d) _ y.1).1).0, inr (masks_mask _ o.class y.0))
 
-  by_p3 : (p : BinOp) (a o : Operand) → p3 (S (values.Carry p a o)) ≡ true → Fit w (values.Carry p a o)
-  by_p3 p a o h =
+  by_carrying : (p : BinOp) (a o : Operand) → carrying_row (S (values.Carry p a o)) ≡ true → Fit w (values.Carry p a o)
+  by_carrying p a o h =
       let y = and_parts (is_rmi o.class) _ h in
       let z = and_parts _ _ y.1 in
       inr ((and_parts (is_rmi a.class) _ (and_parts (is_rm d) _ z.1).1).0, y.0)
 
-  by_p4 : (a : Operand) → p4 (S (values.One a)) ≡ true → Fit w (values.One a)
-  by_p4 a h = inr (and_parts (is_rmi a.class) _ (and_parts (is_rm d) _ h).1).0
+  by_unary : (a : Operand) → unary_row (S (values.One a)) ≡ true → Fit w (values.One a)
+  by_unary a h = inr (and_parts (is_rmi a.class) _ (and_parts (is_rm d) _ h).1).0
 
-  by_p11 : (z : Size) (s : Bool) (c : Class) → p11 (S (values.Cast z s c)) ≡ true → Fit w (values.Cast z s c)
-  by_p11 z s c h = inr (rm_class c (and_parts (is_rm c) _ (and_parts (is_r d) _ (and_parts (not s) _ h).1).1).0)
+  by_zero_extension : (z : Size) (s : Bool) (c : Class) → zero_extension_row (S (values.Cast z s c)) ≡ true → Fit w (values.Cast z s c)
+  by_zero_extension z s c h = inr (rm_class c (and_parts (is_rm c) _ (and_parts (is_r d) _ (and_parts (not s) _ h).1).1).0)
 
-  by_p12 : (z : Size) (s : Bool) (c : Class) → p12 (S (values.Cast z s c)) ≡ true → Fit w (values.Cast z s c)
-  by_p12 z s c h = inr (rm_class c (and_parts (is_rm c) _ (and_parts (is_r d) _ (and_parts s _ h).1).1).0)
+  by_sign_extension : (z : Size) (s : Bool) (c : Class) → sign_extension_row (S (values.Cast z s c)) ≡ true → Fit w (values.Cast z s c)
+  by_sign_extension z s c h = inr (rm_class c (and_parts (is_rm c) _ (and_parts (is_r d) _ (and_parts s _ h).1).1).0)
 
-  by_p13 : (z : Size) (s : Bool) (c : Class) → p13 (S (values.Cast z s c)) ≡ true → Fit w (values.Cast z s c)
-  by_p13 z s c h = inr (r_class c (and_parts (is_r c) _ (and_parts (is_r d) _ (and_parts (not s) _ h).1).1).0)
+  by_truncation : (z : Size) (s : Bool) (c : Class) → truncation_row (S (values.Cast z s c)) ≡ true → Fit w (values.Cast z s c)
+  by_truncation z s c h = inr (r_class c (and_parts (is_r c) _ (and_parts (is_r d) _ (and_parts (not s) _ h).1).1).0)
 
   -- ---- one row after another
-  first : (v : Value) (rest : Bool) → (rest ≡ true → Fit w v) → (HasClass w → Fit w v) → (p1 (S v) || rest) ≡ true → Fit w v
-  first v rest f g h = by_part (or_parts (p1 (S v)) rest h)
+  first : (v : Value) (rest : Bool) → (rest ≡ true → Fit w v) → (HasClass w → Fit w v) → (copy_row (S v) || rest) ≡ true → Fit w v
+  first v rest f g h = by_part (or_parts (copy_row (S v)) rest h)
     where
-      by_part : (p1 (S v) ≡ true) ⊎ (rest ≡ true) → Fit w v
-      by_part (inl t) = g (by_p1 d w v t)
+      by_part : (copy_row (S v) ≡ true) ⊎ (rest ≡ true) → Fit w v
+      by_part (inl t) = g (by_copy d w v t)
       by_part (inr t) = f t
 
   next : (v : Value) (row rest : Bool) → (row ≡ true → Fit w v) → (rest ≡ true → Fit w v) → (row || rest) ≡ true → Fit w v
@@ -202,24 +202,24 @@ module _ (d w : Class) where
 
   fits : (v : Value) → Matches (S v) → Fit w v
   fits values.Alone h = first values.Alone false (none values.Alone) (λ k. k) h
-  fits (values.One a) h = let v = values.One a in first v (p4 (S v) || false) (next v (p4 (S v)) false (by_p4 a) (none v)) inl h
+  fits (values.One a) h = let v = values.One a in first v (unary_row (S v) || false) (next v (unary_row (S v)) false (by_unary a) (none v)) inl h
   fits (values.Two p a o) h =
       let v : Value = values.Two p a o in
-      first v (p2 (S v) || (p5 (S v) || (p6 (S v) || (p8 (S v) || (p9 (S v) || (p10 (S v) || false))))))
-      (next v (p2 (S v)) (p5 (S v) || (p6 (S v) || (p8 (S v) || (p9 (S v) || (p10 (S v) || false))))) (by_p2 p a o)
-      (next v (p5 (S v)) (p6 (S v) || (p8 (S v) || (p9 (S v) || (p10 (S v) || false)))) (by_p5 p a o)
-      (next v (p6 (S v)) (p8 (S v) || (p9 (S v) || (p10 (S v) || false))) (by_p6 p a o)
-      (next v (p8 (S v)) (p9 (S v) || (p10 (S v) || false)) (by_p8 p a o)
-      (next v (p9 (S v)) (p10 (S v) || false) (by_p9 p a o)
-      (next v (p10 (S v)) false (by_p10 p a o) (none v)))))))
+      first v (arithmetic_row (S v) || (times_row (S v) || (times_inline_row (S v) || (quotient_row (S v) || (inline_shift_row (S v) || (masked_shift_row (S v) || false))))))
+      (next v (arithmetic_row (S v)) (times_row (S v) || (times_inline_row (S v) || (quotient_row (S v) || (inline_shift_row (S v) || (masked_shift_row (S v) || false))))) (by_arithmetic p a o)
+      (next v (times_row (S v)) (times_inline_row (S v) || (quotient_row (S v) || (inline_shift_row (S v) || (masked_shift_row (S v) || false)))) (by_times p a o)
+      (next v (times_inline_row (S v)) (quotient_row (S v) || (inline_shift_row (S v) || (masked_shift_row (S v) || false))) (by_times_inline p a o)
+      (next v (quotient_row (S v)) (inline_shift_row (S v) || (masked_shift_row (S v) || false)) (by_quotient p a o)
+      (next v (inline_shift_row (S v)) (masked_shift_row (S v) || false) (by_inline_shift p a o)
+      (next v (masked_shift_row (S v)) false (by_masked_shift p a o) (none v)))))))
       inl h
-  fits (values.Carry p a o) h = let v : Value = values.Carry p a o in first v (p3 (S v) || false) (next v (p3 (S v)) false (by_p3 p a o) (none v)) inl h
+  fits (values.Carry p a o) h = let v : Value = values.Carry p a o in first v (carrying_row (S v) || false) (next v (carrying_row (S v)) false (by_carrying p a o) (none v)) inl h
   fits (values.Cast z s c) h =
       let v : Value = values.Cast z s c in
-      first v (p11 (S v) || (p12 (S v) || (p13 (S v) || false)))
-      (next v (p11 (S v)) (p12 (S v) || (p13 (S v) || false)) (by_p11 z s c)
-      (next v (p12 (S v)) (p13 (S v) || false) (by_p12 z s c)
-      (next v (p13 (S v)) false (by_p13 z s c) (none v))))
+      first v (zero_extension_row (S v) || (sign_extension_row (S v) || (truncation_row (S v) || false)))
+      (next v (zero_extension_row (S v)) (sign_extension_row (S v) || (truncation_row (S v) || false)) (by_zero_extension z s c)
+      (next v (sign_extension_row (S v)) (truncation_row (S v) || false) (by_sign_extension z s c)
+      (next v (truncation_row (S v)) false (by_truncation z s c) (none v))))
       inl h
 
 -- ---- expressions
@@ -321,9 +321,9 @@ var_layer : (v : Var) → out-Expr (expr.Var v) ≡ Expr-F.Var v
 var_layer v = ap out-Expr (sym (expr.rolls-Var v)) ∙ out-roll-Expr (Expr-F.Var v)
 
 alone_place : (d w : Class) → Matches (shapes.Assign None d w values.Alone) → is_rm d ≡ true
-alone_place d w h = by_part (or_parts (p1 (shapes.Assign None d w values.Alone)) false h)
+alone_place d w h = by_part (or_parts (copy_row (shapes.Assign None d w values.Alone)) false h)
   where
-    by_part : (p1 (shapes.Assign None d w values.Alone) ≡ true) ⊎ (false ≡ true) → is_rm d ≡ true
+    by_part : (copy_row (shapes.Assign None d w values.Alone) ≡ true) ⊎ (false ≡ true) → is_rm d ≡ true
     by_part (inl t) = (and_parts (is_rm d) _ t).0
     by_part (inr t) = absurd (false≢true t)
 

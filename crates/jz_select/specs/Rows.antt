@@ -203,79 +203,81 @@ shifts_masked z d a o =
     && computes false d a o
 
 -- ---- the rows
--- P1 `d = o`
-abbrev pub p1 : Shape → Bool
-p1 (shapes.Assign None d o v) = is_rm d && (is_rmi o && not (is_m d && is_m o))
-p1 _ = false
+-- `d = o`
+abbrev pub copy_row : Shape → Bool
+copy_row (shapes.Assign None d o v) = is_rm d && (is_rmi o && not (is_m d && is_m o))
+copy_row _ = false
 
--- P2 `d = a op o`, op `+ - & | ^`; a flag may lead for `+` and `-`
-abbrev pub p2 : Shape → Bool
-p2 (shapes.Assign lead d w (values.Two p a o)) =
+-- `d = a op o`, op `+ - & | ^`; a flag may lead for `+` and `-`
+abbrev pub arithmetic_row : Shape → Bool
+arithmetic_row (shapes.Assign lead d w (values.Two p a o)) =
     (adds p || (joins_bits p && is_alone lead)) && sums lead (swaps p) d a o
-p2 _ = false
+arithmetic_row _ = false
 
--- P3 `d = a + o + c`, `d = a - o - c`, c a flag; a flag may lead
-abbrev pub p3 : Shape → Bool
-p3 (shapes.Assign lead d w (values.Carry p a o)) = sums lead (swaps p) d a o
-p3 _ = false
+-- `d = a + o + c`, `d = a - o - c`, c a flag; a flag may lead
+abbrev pub carrying_row : Shape → Bool
+carrying_row (shapes.Assign lead d w (values.Carry p a o)) = sums lead (swaps p) d a o
+carrying_row _ = false
 
--- P4 `d = -a`, `d = !a`
-abbrev pub p4 : Shape → Bool
-p4 (shapes.Assign None d w (values.One a)) = changes d a
-p4 _ = false
+-- `d = -a`, `d = !a`
+abbrev pub unary_row : Shape → Bool
+unary_row (shapes.Assign None d w (values.One a)) = changes d a
+unary_row _ = false
 
--- P5 `r = a * o`, o R or M
-abbrev pub p5 : Shape → Bool
-p5 (shapes.Assign None d w (values.Two p a o)) = multiplies p && times d a o
-p5 _ = false
+-- `r = a * o`, o R or M
+abbrev pub times_row : Shape → Bool
+times_row (shapes.Assign None d w (values.Two p a o)) = multiplies p && times d a o
+times_row _ = false
 
--- P6 `r = a * c`, c I, a R or M
-abbrev pub p6 : Shape → Bool
-p6 (shapes.Assign None d w (values.Two p a o)) = multiplies p && times_inline d a o
-p6 _ = false
+-- `r = a * c`, c I, a R or M
+abbrev pub times_inline_row : Shape → Bool
+times_inline_row (shapes.Assign None d w (values.Two p a o)) = multiplies p && times_inline d a o
+times_inline_row _ = false
 
--- P7 `h, l = a * b`, b R or M; 32 and 64 bits
-abbrev pub p7 : Shape → Bool
-p7 (shapes.Assign (Some h) l w (values.Two p a b)) = multiplies p && is_product None h l a b
-p7 _ = false
+-- `h, l = a * b`, b R or M; 32 and 64 bits
+abbrev pub wide_product_row : Shape → Bool
+wide_product_row (shapes.Assign (Some h) l w (values.Two p a b)) =
+    multiplies p && is_product None h l a b
+wide_product_row _ = false
 
--- P8 `r = a / b`, `a % b`, signed or not, b R or M without r; 32 and 64 bits
-abbrev pub p8 : Shape → Bool
-p8 (shapes.Assign None d w (values.Two p a b)) = divides p && is_quotient d a b
-p8 _ = false
+-- `r = a / b`, `a % b`, signed or not, b R or M without r; 32 and 64 bits
+abbrev pub quotient_row : Shape → Bool
+quotient_row (shapes.Assign None d w (values.Two p a b)) = divides p && is_quotient d a b
+quotient_row _ = false
 
--- P9 `d = a sh c`, c I
-abbrev pub p9 : Shape → Bool
-p9 (shapes.Assign None d w (values.Two p a o)) = is_shift p && shifts_inline d a o
-p9 _ = false
+-- `d = a sh c`, c I
+abbrev pub inline_shift_row : Shape → Bool
+inline_shift_row (shapes.Assign None d w (values.Two p a o)) = is_shift p && shifts_inline d a o
+inline_shift_row _ = false
 
--- P10 `d = a sh (v & k)`, v a byte in a register
-abbrev pub p10 : Shape → Bool
-p10 (shapes.Assign None d w (values.Two p a o)) = is_shift p && shifts_masked None d a o
-p10 _ = false
+-- `d = a sh (v & k)`, v a byte in a register
+abbrev pub masked_shift_row : Shape → Bool
+masked_shift_row (shapes.Assign None d w (values.Two p a o)) =
+    is_shift p && shifts_masked None d a o
+masked_shift_row _ = false
 
--- P11 `r = (tu)o`, o R or M, smaller
-abbrev pub p11 : Shape → Bool
-p11 (shapes.Assign None d w (values.Cast z signed o)) =
+-- `r = (tu)o`, o R or M, smaller
+abbrev pub zero_extension_row : Shape → Bool
+zero_extension_row (shapes.Assign None d w (values.Cast z signed o)) =
     not signed && (is_r d && (is_rm o && is_below (class_size o) z))
-p11 _ = false
+zero_extension_row _ = false
 
--- P12 `r = (ts)o`, the same
-abbrev pub p12 : Shape → Bool
-p12 (shapes.Assign None d w (values.Cast z signed o)) =
+-- `r = (ts)o`, the same
+abbrev pub sign_extension_row : Shape → Bool
+sign_extension_row (shapes.Assign None d w (values.Cast z signed o)) =
     signed && (is_r d && (is_rm o && is_below (class_size o) z))
-p12 _ = false
+sign_extension_row _ = false
 
--- P13 `r = (tu)a`, a R of the same size or a larger one
-abbrev pub p13 : Shape → Bool
-p13 (shapes.Assign None d w (values.Cast z signed a)) =
+-- `r = (tu)a`, a R of the same size or a larger one
+abbrev pub truncation_row : Shape → Bool
+truncation_row (shapes.Assign None d w (values.Cast z signed a)) =
     not signed && (is_r d && (is_r a && not (is_below (class_size a) z)))
-p13 _ = false
+truncation_row _ = false
 
--- P14 `r = o if c`, o R or M; 16, 32 and 64 bits
-abbrev pub p14 : Shape → Bool
-p14 (shapes.Conditional d o c) = is_r d && (is_wide (class_size d) && (is_rm o && c))
-p14 _ = false
+-- `r = o if c`, o R or M; 16, 32 and 64 bits
+abbrev pub conditional_row : Shape → Bool
+conditional_row (shapes.Conditional d o c) = is_r d && (is_wide (class_size d) && (is_rm o && c))
+conditional_row _ = false
 
 -- the condition of an `if` or `while`
 abbrev pub condition : Shape → Bool

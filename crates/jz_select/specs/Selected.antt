@@ -7,7 +7,7 @@ use Rattle.jz_select.specs.declared.pattern.Pattern.TheVariants as pattern
 use Rattle.jz_tree.specs.declared.intrinsic.Intrinsic.{Intrinsic}
 use Rattle.jz_tree.specs.declared.intrinsic.Intrinsic.TheVariants as name
 use Rattle.jz_select.specs.declared.shape.Shape.{Shape}
-use Rattle.jz_select.specs.Rows.{p1, p2, p3, p4, p5, p6, p7, p8, p9, p10, p11, p12, p13, p14, condition, intrinsic_of}
+use Rattle.jz_select.specs.Rows.{copy_row, arithmetic_row, carrying_row, unary_row, times_row, times_inline_row, wide_product_row, quotient_row, inline_shift_row, masked_shift_row, zero_extension_row, sign_extension_row, truncation_row, conditional_row, condition, intrinsic_of}
 use Rattle.jz_tree.specs.declared.expr.Expr.{Expr}
 use Rattle.jz_tree.specs.declared.stmt.Lval.{Lval}
 use Rattle.jz_select.specs.Places.{Answers}
@@ -21,13 +21,15 @@ Row = Pattern × (Shape → Bool)
 -- the rows of the pattern table in their order, then the conditions of `if` and `while`
 abbrev pub operations : List Row
 operations =
-    (pattern.P 2, p2) ∷ (pattern.P 3, p3) ∷ (pattern.P 4, p4) ∷ (pattern.P 5, p5) ∷ (pattern.P 6, p6)
-    ∷ (pattern.P 7, p7) ∷ (pattern.P 8, p8) ∷ (pattern.P 9, p9) ∷ (pattern.P 10, p10)
-    ∷ (pattern.P 11, p11) ∷ (pattern.P 12, p12) ∷ (pattern.P 13, p13) ∷ (pattern.P 14, p14)
-    ∷ (pattern.Condition, condition) ∷ []
+    (pattern.P 2, arithmetic_row) ∷ (pattern.P 3, carrying_row) ∷ (pattern.P 4, unary_row)
+    ∷ (pattern.P 5, times_row) ∷ (pattern.P 6, times_inline_row) ∷ (pattern.P 7, wide_product_row)
+    ∷ (pattern.P 8, quotient_row) ∷ (pattern.P 9, inline_shift_row)
+    ∷ (pattern.P 10, masked_shift_row) ∷ (pattern.P 11, zero_extension_row)
+    ∷ (pattern.P 12, sign_extension_row) ∷ (pattern.P 13, truncation_row)
+    ∷ (pattern.P 14, conditional_row) ∷ (pattern.Condition, condition) ∷ []
 
 abbrev pub table : List Row
-table = (pattern.P 1, p1) ∷ operations
+table = (pattern.P 1, copy_row) ∷ operations
 
 abbrev pub intrinsic_number : Intrinsic → ℕ
 intrinsic_number name.Add = 0

@@ -18,7 +18,7 @@ use Rattle.jz_select.specs.declared.shape.Value.TheVariants as values
 use Rattle.jz_select.specs.declared.shape.Shape as rowed
 use Rattle.jz_select.specs.declared.shape.Shape.TheVariants as shapes
 use Rattle.jz_select.specs.Operands.{class_of, dest_of}
-use Rattle.jz_select.specs.Rows.{is_i, is_rm, is_rmi, is_flag, is_pinned, is_long, may_lead, are_inline, adds, joins_bits, multiplies, product_size, p2, p3, p5, p6, p7, p8, p9, p10}
+use Rattle.jz_select.specs.Rows.{is_i, is_rm, is_rmi, is_flag, is_pinned, is_long, may_lead, are_inline, adds, joins_bits, multiplies, product_size, arithmetic_row, carrying_row, times_row, times_inline_row, wide_product_row, quotient_row, inline_shift_row, masked_shift_row}
 use Rattle.jz_select.specs.Shapes.{Asked, itself, beside, first_of, carry_layer, value_layer, update_layer, assign_of}
 use Rattle.jz_judgement.specs.HasType.{Layer}
 use Rattle.jz_row_laws.proofs.Booleans.{or_parts}
@@ -39,43 +39,43 @@ module _ (w : Class) where
   abbrev A : Value → rowed.Shape
   A v = shapes.Assign None class.Skip w v
 
-  skip_p2 : (p : BinOp) (a o : Operand) → p2 (A (values.Two p a o)) ≡ true → ⊥
-  skip_p2 p a o h =
+  skip_arithmetic : (p : BinOp) (a o : Operand) → arithmetic_row (A (values.Two p a o)) ≡ true → ⊥
+  skip_arithmetic p a o h =
       let x = and_parts (adds p || (joins_bits p && true)) _ h in
       let y = and_parts (is_rmi o.class) _ x.1 in
       false≢true (and_parts (not (are_inline a o)) false y.1).1
 
-  skip_p5 : (p : BinOp) (a o : Operand) → p5 (A (values.Two p a o)) ≡ true → ⊥
-  skip_p5 p a o h = false≢true (and_parts (multiplies p) false h).1
+  skip_times : (p : BinOp) (a o : Operand) → times_row (A (values.Two p a o)) ≡ true → ⊥
+  skip_times p a o h = false≢true (and_parts (multiplies p) false h).1
 
-  skip_p6 : (p : BinOp) (a o : Operand) → p6 (A (values.Two p a o)) ≡ true → ⊥
-  skip_p6 p a o h = false≢true (and_parts (multiplies p) false h).1
+  skip_times_inline : (p : BinOp) (a o : Operand) → times_inline_row (A (values.Two p a o)) ≡ true → ⊥
+  skip_times_inline p a o h = false≢true (and_parts (multiplies p) false h).1
 
-  skip_p8 : (p : BinOp) (a o : Operand) → p8 (A (values.Two p a o)) ≡ true → ⊥
-  skip_p8 p a o h = false≢true (and_parts _ false h).1
+  skip_quotient : (p : BinOp) (a o : Operand) → quotient_row (A (values.Two p a o)) ≡ true → ⊥
+  skip_quotient p a o h = false≢true (and_parts _ false h).1
 
-  skip_p9 : (p : BinOp) (a o : Operand) → p9 (A (values.Two p a o)) ≡ true → ⊥
-  skip_p9 p a o h = false≢true (and_parts (is_i o.class) false (and_parts _ _ h).1).1
+  skip_inline_shift : (p : BinOp) (a o : Operand) → inline_shift_row (A (values.Two p a o)) ≡ true → ⊥
+  skip_inline_shift p a o h = false≢true (and_parts (is_i o.class) false (and_parts _ _ h).1).1
 
-  skip_p10 : (p : BinOp) (a o : Operand) → p10 (A (values.Two p a o)) ≡ true → ⊥
-  skip_p10 p a o h = false≢true (and_parts _ false (and_parts _ _ h).1).1
+  skip_masked_shift : (p : BinOp) (a o : Operand) → masked_shift_row (A (values.Two p a o)) ≡ true → ⊥
+  skip_masked_shift p a o h = false≢true (and_parts _ false (and_parts _ _ h).1).1
 
   skip_two : (p : BinOp) (a o : Operand) → Matches (A (values.Two p a o)) → ⊥
   skip_two p a o h =
       let v : Value = values.Two p a o in
-      next ⊥ (p2 (A v)) (p5 (A v) || (p6 (A v) || (p8 (A v) || (p9 (A v) || (p10 (A v) || false))))) (skip_p2 p a o)
-      (next ⊥ (p5 (A v)) (p6 (A v) || (p8 (A v) || (p9 (A v) || (p10 (A v) || false)))) (skip_p5 p a o)
-      (next ⊥ (p6 (A v)) (p8 (A v) || (p9 (A v) || (p10 (A v) || false))) (skip_p6 p a o)
-      (next ⊥ (p8 (A v)) (p9 (A v) || (p10 (A v) || false)) (skip_p8 p a o)
-      (next ⊥ (p9 (A v)) (p10 (A v) || false) (skip_p9 p a o)
-      (next ⊥ (p10 (A v)) false (skip_p10 p a o) (none_more ⊥))))))
+      next ⊥ (arithmetic_row (A v)) (times_row (A v) || (times_inline_row (A v) || (quotient_row (A v) || (inline_shift_row (A v) || (masked_shift_row (A v) || false))))) (skip_arithmetic p a o)
+      (next ⊥ (times_row (A v)) (times_inline_row (A v) || (quotient_row (A v) || (inline_shift_row (A v) || (masked_shift_row (A v) || false)))) (skip_times p a o)
+      (next ⊥ (times_inline_row (A v)) (quotient_row (A v) || (inline_shift_row (A v) || (masked_shift_row (A v) || false))) (skip_times_inline p a o)
+      (next ⊥ (quotient_row (A v)) (inline_shift_row (A v) || (masked_shift_row (A v) || false)) (skip_quotient p a o)
+      (next ⊥ (inline_shift_row (A v)) (masked_shift_row (A v) || false) (skip_inline_shift p a o)
+      (next ⊥ (masked_shift_row (A v)) false (skip_masked_shift p a o) (none_more ⊥))))))
       h
 
   skip_carry : (p : BinOp) (a o : Operand) → Matches (A (values.Carry p a o)) → ⊥
-  skip_carry p a o h = next ⊥ (p3 (A (values.Carry p a o))) false by_p3 (none_more ⊥) h
+  skip_carry p a o h = next ⊥ (carrying_row (A (values.Carry p a o))) false by_carrying (none_more ⊥) h
     where
-      by_p3 : p3 (A (values.Carry p a o)) ≡ true → ⊥
-      by_p3 h = false≢true (and_parts (not (are_inline a o)) false (and_parts (is_rmi o.class) _ h).1).1
+      by_carrying : carrying_row (A (values.Carry p a o)) ≡ true → ⊥
+      by_carrying h = false≢true (and_parts (not (are_inline a o)) false (and_parts (is_rmi o.class) _ h).1).1
 
 -- ---- behind a flag or the high word
 pub record IsSumRow (d : Class) (p : BinOp) (a o : Operand) : Type 0 where
@@ -100,7 +100,7 @@ module _ (x d w : Class) where
   abbrev B : Value → rowed.Shape
   B v = shapes.Assign (Some x) d w v
 
-  sum_row : (p : BinOp) (a o : Operand) → p2 (B (values.Two p a o)) ≡ true → IsSumRow d p a o
+  sum_row : (p : BinOp) (a o : Operand) → arithmetic_row (B (values.Two p a o)) ≡ true → IsSumRow d p a o
   sum_row p a o h =
       let y = and_parts (adds p || (joins_bits p && false)) _ h in
       let l = and_parts (may_lead (Some x)) _ y.1 in
@@ -112,7 +112,7 @@ module _ (x d w : Class) where
       only_adds (inl t) = t
       only_adds (inr t) = absurd (false≢true (and_parts (joins_bits p) false t).1)
 
-  product_row : (p : BinOp) (a b : Operand) → p7 (B (values.Two p a b)) ≡ true → IsProductRow x d p a b
+  product_row : (p : BinOp) (a b : Operand) → wide_product_row (B (values.Two p a b)) ≡ true → IsProductRow x d p a b
   product_row p a b h =
       let y = and_parts (multiplies p) _ h in
       let k = and_parts (is_pinned x) _ y.1 in
@@ -120,7 +120,7 @@ module _ (x d w : Class) where
       let m = and_parts (is_rmi a.class) _ l.1 in
       record { multiplying = y.0; long = l.0; first = m.0; second = (and_parts (is_rm b.class) _ m.1).0 }
 
-  carry_row : (p : BinOp) (a o : Operand) → p3 (B (values.Carry p a o)) ≡ true → (is_rm d ≡ true) × (is_rmi o.class ≡ true)
+  carry_row : (p : BinOp) (a o : Operand) → carrying_row (B (values.Carry p a o)) ≡ true → (is_rm d ≡ true) × (is_rmi o.class ≡ true)
   carry_row p a o h =
       let l = and_parts (may_lead (Some x)) _ h in
       let r = and_parts (is_rmi o.class) _ l.1 in
@@ -131,10 +131,10 @@ module _ (x d w : Class) where
   pair_fits values.Alone h = false≢true h
   pair_fits (values.One a) h = false≢true h
   pair_fits (values.Cast z s c) h = false≢true h
-  pair_fits (values.Carry p a o) h = next (PairFits x d (values.Carry p a o)) (p3 (B (values.Carry p a o))) false (carry_row p a o) (none_more (PairFits x d (values.Carry p a o))) h
+  pair_fits (values.Carry p a o) h = next (PairFits x d (values.Carry p a o)) (carrying_row (B (values.Carry p a o))) false (carry_row p a o) (none_more (PairFits x d (values.Carry p a o))) h
   pair_fits (values.Two p a o) h =
       let v : Value = values.Two p a o in
-      next (PairFits x d v) (p2 (B v)) (p7 (B v) || false) (λ t. inl (sum_row p a o t)) (next (PairFits x d v) (p7 (B v)) false (λ t. inr (product_row p a o t)) (none_more (PairFits x d v))) h
+      next (PairFits x d v) (arithmetic_row (B v)) (wide_product_row (B v) || false) (λ t. inl (sum_row p a o t)) (next (PairFits x d v) (wide_product_row (B v)) false (λ t. inr (product_row p a o t)) (none_more (PairFits x d v))) h
 
 -- ---- the operands
 -- what a right side of two left sides is

@@ -20,7 +20,7 @@ use Rattle.jz_select.specs.declared.shape.Value.TheVariants as values
 use Rattle.jz_select.specs.declared.shape.Shape.TheVariants as shapes
 use Rattle.jz_select.specs.Places.{Layer}
 use Rattle.jz_select.specs.Operands.{class_of, dest_of, operand_of}
-use Rattle.jz_select.specs.Rows.{is_r, is_rm, is_rmi, is_long, class_size, is_flag, p1}
+use Rattle.jz_select.specs.Rows.{is_r, is_rm, is_rmi, is_long, class_size, is_flag, copy_row}
 use Rattle.jz_select.specs.Shapes.{whichever, itself, has_flags, assign_of, carry_layer, value_layer, update_layer}
 use Rattle.jz_judgement.specs.Places as place
 use Rattle.jz_judgement.specs.HasType.{value, left, result, HasType, Operates}
@@ -125,13 +125,13 @@ module _ (frame : Frame) (home : Homes) (homing : IsHoming frame home) (d : Lval
       size_by D (of_left w) = left_first (left_size d) t.size (own_size (expr.Bin o a b here)) (D.wanted w)
       size_by D (of_right m s) = right_first (left_size d) t.size (own_size (expr.Bin o a b here)) m (says_own home (expr.Bin o a b here) (place.word t.size) t.size (of_two o a b here n xa xb) t.typed s)
 
-      two_only : ((u : Value) → p1 (shapes.Assign None (dest_of d) (class_of (expr.Bin o a b here)) u) ≡ true → ⊥) → (c : Bool)
+      two_only : ((u : Value) → copy_row (shapes.Assign None (dest_of d) (class_of (expr.Bin o a b here)) u) ≡ true → ⊥) → (c : Bool)
           → Matches (shapes.Assign None (dest_of d) (class_of (expr.Bin o a b here)) (if c then carry_layer (whichever A) d o (out-Expr a) else values.Two o (operand_of A d a) (operand_of A d b)))
           → Matches (shapes.Assign None (dest_of d) (class_of (expr.Bin o a b here)) (values.Two o (operand_of A d a) (operand_of A d b)))
       two_only none false g = g
       two_only none true g =
           let P : Type 0 = Matches (shapes.Assign None (dest_of d) (class_of (expr.Bin o a b here)) (values.Two o (operand_of A d a) (operand_of A d b))) in
-          either P (p1 (shapes.Assign None (dest_of d) (class_of (expr.Bin o a b here)) values.Alone)) false (λ e. absurd (none values.Alone e)) (none_more P)
+          either P (copy_row (shapes.Assign None (dest_of d) (class_of (expr.Bin o a b here)) values.Alone)) false (λ e. absurd (none values.Alone e)) (none_more P)
           (subst (λ u. Matches (shapes.Assign None (dest_of d) (class_of (expr.Bin o a b here)) u)) (alone_layer d o (out-Expr a) v) g)
 
   quotient_value : (e : Expr) (at : Span) → IsExpanded home e → divides_layer (out-Expr e) ≡ true → (t : TypedLeft d (value e)) → is_rm (dest_of d) ≡ true → FieldsKept d None e None → Matches (assign_of (whichever A) None d None e) → HasOperations home (assign (d ∷ []) None e None at)

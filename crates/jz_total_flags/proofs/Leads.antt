@@ -27,7 +27,7 @@ use Rattle.jz_select.specs.declared.shape.Shape as rowed
 use Rattle.jz_select.specs.declared.shape.Shape.TheVariants as shapes
 use Rattle.jz_select.specs.Places.{Layer}
 use Rattle.jz_select.specs.Operands.{class_of, dest_of, operand_of}
-use Rattle.jz_select.specs.Rows.{is_flag, is_flag_result, adds, joins_bits, multiplies, swaps, sums, p1, p2, p3, p5, p6, p7, p8, p9, p10}
+use Rattle.jz_select.specs.Rows.{is_flag, is_flag_result, adds, joins_bits, multiplies, swaps, sums, copy_row, arithmetic_row, carrying_row, times_row, times_inline_row, wide_product_row, quotient_row, inline_shift_row, masked_shift_row}
 use Rattle.jz_select.specs.Selected.{Row, rows, FirstMatches, Tells, IsSelected}
 use Rattle.jz_select.specs.Shapes.{whichever, itself, two_beside, carry_layer, value_layer, update_layer, assign_of, kind_layer, shape_of}
 use Rattle.jz_row_laws.proofs.Booleans.{or_left, or_right}
@@ -85,25 +85,25 @@ module _ (f d w : Class) where
       let led : rowed.Shape = shapes.Assign (Some f) d w v in
       let s : rowed.Shape = shapes.Assign None d w v in
       let P : Type 0 = Matches s × (adds o ≡ true) in
-      either P (p2 led) (p7 led || false)
+      either P (arithmetic_row led) (wide_product_row led || false)
       (λ e.
       let k = and_parts (adds o || (joins_bits o && false)) (sums (Some f) (swaps o) d a b) e in
       let g = not_alone (adds o) (joins_bits o) k.0 in
       let t = (and_parts (is_flag_result f) (sums None (swaps o) d a b) k.1).1 in (
-        or_right (p1 s) (p2 s || (p5 s || (p6 s || (p8 s || (p9 s || (p10 s || false))))))
-            (or_left (p2 s) (p5 s || (p6 s || (p8 s || (p9 s || (p10 s || false))))) (both_true (adds o || (joins_bits o && true)) (sums None (swaps o) d a b) (or_left (adds o) (joins_bits o && true) g) t)),
+        or_right (copy_row s) (arithmetic_row s || (times_row s || (times_inline_row s || (quotient_row s || (inline_shift_row s || (masked_shift_row s || false))))))
+            (or_left (arithmetic_row s) (times_row s || (times_inline_row s || (quotient_row s || (inline_shift_row s || (masked_shift_row s || false))))) (both_true (adds o || (joins_bits o && true)) (sums None (swaps o) d a b) (or_left (adds o) (joins_bits o && true) g) t)),
         g,
       ))
-      (either P (p7 led) false (λ e. absurd (false≢true (sym n ∙ (and_parts (multiplies o) _ e).0))) (none_more P))
+      (either P (wide_product_row led) false (λ e. absurd (false≢true (sym n ∙ (and_parts (multiplies o) _ e).0))) (none_more P))
       h
   unled (values.Carry o a b) n h =
       let v : Value = values.Carry o a b in
       let led : rowed.Shape = shapes.Assign (Some f) d w v in
       let s : rowed.Shape = shapes.Assign None d w v in
       let P : Type 0 = Matches s × ⊤ in
-      either P (p3 led) false
+      either P (carrying_row led) false
       (λ e. (
-        or_right (p1 s) (p3 s || false) (or_left (p3 s) false (and_parts (is_flag_result f) (sums None (swaps o) d a b) e).1),
+        or_right (copy_row s) (carrying_row s || false) (or_left (carrying_row s) false (and_parts (is_flag_result f) (sums None (swaps o) d a b) e).1),
         tt,
       ))
       (none_more P)

@@ -20,7 +20,7 @@ use Rattle.jz_select.specs.declared.shape.Shape as rowed
 use Rattle.jz_select.specs.declared.shape.Shape.TheVariants as shapes
 use Rattle.jz_select.specs.declared.shape.Value.TheVariants as values
 use Rattle.jz_select.specs.Operands.{class_of, dest_of, operand_of}
-use Rattle.jz_select.specs.Rows.{is_r, is_i, is_rm, is_rmi, is_long, class_size, is_apart as stands_apart, is_quotient as has_quotient, adds, joins_bits, multiplies, p1, p2, p5, p6, p8, p9, p10}
+use Rattle.jz_select.specs.Rows.{is_r, is_i, is_rm, is_rmi, is_long, class_size, is_apart as stands_apart, is_quotient as has_quotient, adds, joins_bits, multiplies, copy_row, arithmetic_row, times_row, times_inline_row, quotient_row, inline_shift_row, masked_shift_row}
 use Rattle.jz_judgement.specs.Places as place
 use Rattle.jz_judgement.specs.HasType.{value, HasType}
 use Rattle.jz_row_laws.proofs.Booleans.{or_left}
@@ -97,18 +97,18 @@ long_of (Some y) z f h = subst IsLong (f y refl) (by_size y h)
     by_size S64 h = tt
 
 -- of the rows of two operands it is the one of quotients
-pub quotient_only : (d c : Class) (o : BinOp) (a b : Operand) → divides o ≡ true → (p1 (shapes.Assign None d c (values.Two o a b)) ≡ true → ⊥) → Matches (shapes.Assign None d c (values.Two o a b)) → has_quotient d a b ≡ true
+pub quotient_only : (d c : Class) (o : BinOp) (a b : Operand) → divides o ≡ true → (copy_row (shapes.Assign None d c (values.Two o a b)) ≡ true → ⊥) → Matches (shapes.Assign None d c (values.Two o a b)) → has_quotient d a b ≡ true
 quotient_only d c o a b v none h =
     let Q : Type 0 = has_quotient d a b ≡ true in
     let w : rowed.Shape = shapes.Assign None d c (values.Two o a b) in
     let no : (x : Bool) → x ≡ false → x ≡ true → Q = λ x e f. absurd (false≢true (sym e ∙ f)) in
-    either Q (p1 w) (p2 w || (p5 w || (p6 w || (p8 w || (p9 w || (p10 w || false)))))) (λ e. absurd (none e))
-    (either Q (p2 w) (p5 w || (p6 w || (p8 w || (p9 w || (p10 w || false))))) (λ e. no _ (divides_no_sum o v) (and_parts (adds o || (joins_bits o && true)) _ e).0)
-    (either Q (p5 w) (p6 w || (p8 w || (p9 w || (p10 w || false)))) (λ e. no _ (divides_no_product o v) (and_parts (multiplies o) _ e).0)
-    (either Q (p6 w) (p8 w || (p9 w || (p10 w || false))) (λ e. no _ (divides_no_product o v) (and_parts (multiplies o) _ e).0)
-    (either Q (p8 w) (p9 w || (p10 w || false)) (λ e. (and_parts (divides o) _ e).1)
-    (either Q (p9 w) (p10 w || false) (λ e. no _ (divides_no_shift o v) (and_parts (is_shift o) _ e).0)
-    (either Q (p10 w) false (λ e. no _ (divides_no_shift o v) (and_parts (is_shift o) _ e).0) (none_more Q)))))))
+    either Q (copy_row w) (arithmetic_row w || (times_row w || (times_inline_row w || (quotient_row w || (inline_shift_row w || (masked_shift_row w || false)))))) (λ e. absurd (none e))
+    (either Q (arithmetic_row w) (times_row w || (times_inline_row w || (quotient_row w || (inline_shift_row w || (masked_shift_row w || false))))) (λ e. no _ (divides_no_sum o v) (and_parts (adds o || (joins_bits o && true)) _ e).0)
+    (either Q (times_row w) (times_inline_row w || (quotient_row w || (inline_shift_row w || (masked_shift_row w || false)))) (λ e. no _ (divides_no_product o v) (and_parts (multiplies o) _ e).0)
+    (either Q (times_inline_row w) (quotient_row w || (inline_shift_row w || (masked_shift_row w || false))) (λ e. no _ (divides_no_product o v) (and_parts (multiplies o) _ e).0)
+    (either Q (quotient_row w) (inline_shift_row w || (masked_shift_row w || false)) (λ e. (and_parts (divides o) _ e).1)
+    (either Q (inline_shift_row w) (masked_shift_row w || false) (λ e. no _ (divides_no_shift o v) (and_parts (is_shift o) _ e).0)
+    (either Q (masked_shift_row w) false (λ e. no _ (divides_no_shift o v) (and_parts (is_shift o) _ e).0) (none_more Q)))))))
     h
 
 -- ---- what there is of a quotient

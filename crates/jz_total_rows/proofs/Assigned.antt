@@ -27,7 +27,7 @@ use Rattle.jz_select.specs.declared.shape.Shape as rowed
 use Rattle.jz_select.specs.declared.shape.Shape.TheVariants as shapes
 use Rattle.jz_select.specs.Places.{meeting_of}
 use Rattle.jz_select.specs.Operands.{class_of, dest_of, operand_of}
-use Rattle.jz_select.specs.Rows.{is_r, is_m, is_i, is_rm, is_rmi, is_same_place, is_apart_from, class_size, is_wide, adds, joins_bits, multiplies, are_inline, computes, changes, masks, is_longest, p1, p2, p5, p6, p8, p9, p10}
+use Rattle.jz_select.specs.Rows.{is_r, is_m, is_i, is_rm, is_rmi, is_same_place, is_apart_from, class_size, is_wide, adds, joins_bits, multiplies, are_inline, computes, changes, masks, is_longest, copy_row, arithmetic_row, times_row, times_inline_row, quotient_row, inline_shift_row, masked_shift_row}
 use Rattle.jz_select.specs.Shapes.{itself}
 use Rattle.jz_judgement.specs.Places as place
 use Rattle.jz_judgement.specs.HasType as judged
@@ -208,7 +208,7 @@ module _ (frame : Frame) (home : Homes) (homing : IsHoming frame home) (z : Size
     abbrev LimitB : Type 0
     LimitB = (if is_shift o then count_field (Some z) (seen (at_size z) b) else (seen (at_size z) b).operand) ≡ None
 
-    by_sum : (c : Class) → Typed → LimitB → p2 (S c (values.Two o oa ob)) ≡ true → RowFound home z d (expr.Bin o a b at)
+    by_sum : (c : Class) → Typed → LimitB → arithmetic_row (S c (values.Two o oa ob)) ≡ true → RowFound home z d (expr.Bin o a b at)
     by_sum c t l h =
         let k = and_parts (adds o || (joins_bits o && true)) _ h in
         let q = and_parts (is_rmi ob.class) _ k.1 in
@@ -218,7 +218,7 @@ module _ (frame : Frame) (home : Homes) (homing : IsHoming frame home) (z : Size
         let f = B.fits None (if_false (is_shift o) _ _ _ (no_shift o g) l) in
         sum_found home z d D.arg' D.leaks D.is (dest_of d) D.stands fd a b x B.arg' p B.leaks i B.is oa ob m (beside_operand b B f) o at (sum_operator o k.0) r.0 r.1
 
-    by_times : (c : Class) → Typed → LimitB → p5 (S c (values.Two o oa ob)) ≡ true → RowFound home z d (expr.Bin o a b at)
+    by_times : (c : Class) → Typed → LimitB → times_row (S c (values.Two o oa ob)) ≡ true → RowFound home z d (expr.Bin o a b at)
     by_times c t l h =
         let k = and_parts (multiplies o) _ h in
         let q = and_parts (is_r (dest_of d)) _ k.1 in
@@ -231,7 +231,7 @@ module _ (frame : Frame) (home : Homes) (homing : IsHoming frame home) (z : Size
         subst (λ o. RowFound home z d (expr.Bin o a b at)) (sym e)
         (times_found home z d D.arg' D.leaks D.is (dest_of d) D.stands fd a b x B.arg' p B.leaks i B.is oa ob m (beside_operand b B f) at (wide r.0) q.0 u.0 u.1)
 
-    by_times_inline : (c : Class) → LimitB → p6 (S c (values.Two o oa ob)) ≡ true → RowFound home z d (expr.Bin o a b at)
+    by_times_inline : (c : Class) → LimitB → times_inline_row (S c (values.Two o oa ob)) ≡ true → RowFound home z d (expr.Bin o a b at)
     by_times_inline c l h =
         let k = and_parts (multiplies o) _ h in
         let q = and_parts (is_r (dest_of d)) _ k.1 in
@@ -255,7 +255,7 @@ module _ (frame : Frame) (home : Homes) (homing : IsHoming frame home) (z : Size
         by_test true e = absurd (n (stands_i m.stands ∙ e) h)
         by_test false e = refl
 
-    by_shift : (c : Class) → LimitB → p9 (S c (values.Two o oa ob)) ≡ true → RowFound home z d (expr.Bin o a b at)
+    by_shift : (c : Class) → LimitB → inline_shift_row (S c (values.Two o oa ob)) ≡ true → RowFound home z d (expr.Bin o a b at)
     by_shift c l h =
         let k = and_parts (is_shift o) _ h in
         let q = and_parts (is_i ob.class) (changes (dest_of d) oa) k.1 in
@@ -306,7 +306,7 @@ module _ (frame : Frame) (home : Homes) (homing : IsHoming frame home) (z : Size
         byte_free d b' r (to_cell u j m q t i' o' cells s' g) n f s = absurd (cell_not _ n f)
         byte_free d b' r (to_memory a' t m q s' g) n f s = absurd (memory_not _ n f)
 
-    by_masked : (c : Class) → Sized → p10 (S c (values.Two o oa ob)) ≡ true → RowFound home z d (expr.Bin o a b at)
+    by_masked : (c : Class) → Sized → masked_shift_row (S c (values.Two o oa ob)) ≡ true → RowFound home z d (expr.Bin o a b at)
     by_masked c t h =
         let k = and_parts (is_shift o) _ h in
         let l = is_longest (option_or (class_size (dest_of d)) (class_size oa.class)) in
@@ -319,16 +319,16 @@ module _ (frame : Frame) (home : Homes) (homing : IsHoming frame home) (z : Size
         (beside_byte g.var g.number g.there g.inner (mask_number l) g.byte g.is) u)
 
     -- ---- all rows of two operands but that of a quotient
-    pub two_row : (c : Class) → Typed → LimitB → Sized → (p1 (S c (values.Two o oa ob)) ≡ true → RowFound home z d (expr.Bin o a b at)) → (p8 (S c (values.Two o oa ob)) ≡ true → ⊥)
+    pub two_row : (c : Class) → Typed → LimitB → Sized → (copy_row (S c (values.Two o oa ob)) ≡ true → RowFound home z d (expr.Bin o a b at)) → (quotient_row (S c (values.Two o oa ob)) ≡ true → ⊥)
         → Matches (S c (values.Two o oa ob)) → RowFound home z d (expr.Bin o a b at)
     two_row c t l u f g h =
         let P : Type 0 = RowFound home z d (expr.Bin o a b at) in
         let v : rowed.Shape = S c (values.Two o oa ob) in
-        either P (p1 v) (p2 v || (p5 v || (p6 v || (p8 v || (p9 v || (p10 v || false)))))) f
-        (either P (p2 v) (p5 v || (p6 v || (p8 v || (p9 v || (p10 v || false))))) (by_sum c t l)
-        (either P (p5 v) (p6 v || (p8 v || (p9 v || (p10 v || false)))) (by_times c t l)
-        (either P (p6 v) (p8 v || (p9 v || (p10 v || false))) (by_times_inline c l)
-        (either P (p8 v) (p9 v || (p10 v || false)) (λ e. absurd (g e))
-        (either P (p9 v) (p10 v || false) (by_shift c l)
-        (either P (p10 v) false (by_masked c u) (none_more P)))))))
+        either P (copy_row v) (arithmetic_row v || (times_row v || (times_inline_row v || (quotient_row v || (inline_shift_row v || (masked_shift_row v || false)))))) f
+        (either P (arithmetic_row v) (times_row v || (times_inline_row v || (quotient_row v || (inline_shift_row v || (masked_shift_row v || false))))) (by_sum c t l)
+        (either P (times_row v) (times_inline_row v || (quotient_row v || (inline_shift_row v || (masked_shift_row v || false)))) (by_times c t l)
+        (either P (times_inline_row v) (quotient_row v || (inline_shift_row v || (masked_shift_row v || false))) (by_times_inline c l)
+        (either P (quotient_row v) (inline_shift_row v || (masked_shift_row v || false)) (λ e. absurd (g e))
+        (either P (inline_shift_row v) (masked_shift_row v || false) (by_shift c l)
+        (either P (masked_shift_row v) false (by_masked c u) (none_more P)))))))
         h

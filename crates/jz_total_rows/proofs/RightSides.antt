@@ -27,7 +27,7 @@ use Rattle.jz_select.specs.declared.shape.Shape as rowed
 use Rattle.jz_select.specs.declared.shape.Shape.TheVariants as shapes
 use Rattle.jz_select.specs.Places.{Layer}
 use Rattle.jz_select.specs.Operands.{class_of, dest_of, operand_of}
-use Rattle.jz_select.specs.Rows.{is_r, is_m, is_i, is_rm, is_rmi, is_flag, class_size, are_inline, computes, swaps, is_below, is_wide, is_long, is_longest, masks, adds, joins_bits, multiplies, p1, p2, p3, p4, p5, p6, p8, p9, p10, p11, p12, p13}
+use Rattle.jz_select.specs.Rows.{is_r, is_m, is_i, is_rm, is_rmi, is_flag, class_size, are_inline, computes, swaps, is_below, is_wide, is_long, is_longest, masks, adds, joins_bits, multiplies, copy_row, arithmetic_row, carrying_row, unary_row, times_row, times_inline_row, quotient_row, inline_shift_row, masked_shift_row, zero_extension_row, sign_extension_row, truncation_row}
 use Rattle.jz_select.specs.Shapes.{whichever, itself, carry_layer, two_beside, value_layer, update_layer}
 use Rattle.jz_judgement.specs.Places as place
 use Rattle.jz_judgement.specs.HasType as judged
@@ -131,7 +131,7 @@ module _ (frame : Frame) (home : Homes) (homing : IsHoming frame home) (z : Size
       by_test false e = refl
 
   -- ---- moves
-  pub move_row : (e : Expr) (v : Value) → IsExpanded home e → HasType (value e) (place.word z) → IsWithin e → p1 (S (class_of e) v) ≡ true → RowFound home z d e
+  pub move_row : (e : Expr) (v : Value) → IsExpanded home e → HasType (value e) (place.word z) → IsWithin e → copy_row (S (class_of e) v) ≡ true → RowFound home z d e
   move_row e v x t l h = by_limit l
     where
       parts : (is_rmi (class_of e) ≡ true) × (not (is_m (dest_of d) && is_m (class_of e)) ≡ true)
@@ -153,7 +153,7 @@ module _ (frame : Frame) (home : Homes) (homing : IsHoming frame home) (z : Size
           (λ c u. mov_spelled c z D.arg' O.arg' (stands_place D.stands rd) (kept_both D.stands O.stands parts.1) (fd c u) (f c u)))
 
   pub alone_row : (e : Expr) → IsExpanded home e → HasType (value e) (place.word z) → IsWithin e → Matches (S (class_of e) values.Alone) → RowFound home z d e
-  alone_row e x t l h = let P : Type 0 = RowFound home z d e in either P (p1 (S (class_of e) values.Alone)) false (move_row e values.Alone x t l) (none_more P) h
+  alone_row e x t l h = let P : Type 0 = RowFound home z d e in either P (copy_row (S (class_of e) values.Alone)) false (move_row e values.Alone x t l) (none_more P) h
 
   pub at_form : (e : Expr) (l : Layer) → out-Expr e ≡ l → Matches (S (class_of e) (value_layer (whichever A) d (out-Expr e))) → Matches (S (class_of e) (value_layer (whichever A) d l))
   at_form e l s h = subst (λ k. Matches (S (class_of e) (value_layer (whichever A) d k))) s h
@@ -165,7 +165,7 @@ module _ (frame : Frame) (home : Homes) (homing : IsHoming frame home) (z : Size
   inverted_type : (a : Expr) (at : Span) → Types (Expr-F.Not a at) (place.word z) → HasType (value a) (place.word z)
   inverted_type a at (judged.inverted t) = t
 
-  minus_row : (a : Expr) (at : Span) → is_inline a ≡ false → IsExpanded home a → HasType (value a) (place.word z) → IsKept z (expr.Neg a at) → p4 (S (class_of (expr.Neg a at)) (values.One (operand_of A d a))) ≡ true → RowFound home z d (expr.Neg a at)
+  minus_row : (a : Expr) (at : Span) → is_inline a ≡ false → IsExpanded home a → HasType (value a) (place.word z) → IsKept z (expr.Neg a at) → unary_row (S (class_of (expr.Neg a at)) (values.One (operand_of A d a))) ≡ true → RowFound home z d (expr.Neg a at)
   minus_row a at n x t l h =
       let q = and_parts (is_rmi (class_of a)) _ (and_parts (is_rm (dest_of d)) _ h).1 in
       let O = operand_there home z (place.word z) a of_size x t q.0 in
@@ -173,7 +173,7 @@ module _ (frame : Frame) (home : Homes) (homing : IsHoming frame home) (z : Size
       sign_found home z d D.arg' D.leaks D.is (dest_of d) D.stands fd a O.arg' O.leaks O.is (operand_of A d a) (beside_operand frame home homing z d D rd fd a O f) one.Neg (expr.Neg a at) (rows.a_minus a at)
       (not_inline_class a x n O) h
 
-  denial_row : (a : Expr) (at : Span) → is_inline a ≡ false → IsExpanded home a → HasType (value a) (place.word z) → IsKept z (expr.Not a at) → p4 (S (class_of (expr.Not a at)) (values.One (operand_of A d a))) ≡ true → RowFound home z d (expr.Not a at)
+  denial_row : (a : Expr) (at : Span) → is_inline a ≡ false → IsExpanded home a → HasType (value a) (place.word z) → IsKept z (expr.Not a at) → unary_row (S (class_of (expr.Not a at)) (values.One (operand_of A d a))) ≡ true → RowFound home z d (expr.Not a at)
   denial_row a at n x t l h =
       let q = and_parts (is_rmi (class_of a)) _ (and_parts (is_rm (dest_of d)) _ h).1 in
       let O = operand_there home z (place.word z) a of_size x t q.0 in
@@ -219,24 +219,24 @@ module _ (frame : Frame) (home : Homes) (homing : IsHoming frame home) (z : Size
         (lowest_found home z d D.arg' D.leaks D.is (dest_of d) D.stands fd a t.from b.0 at own
         (subst (λ w. bits_of w ≤ bits_of t.from) t.same (not_below (class_of a) t.from y O.sized h k)) (silent_arg home t.from a O.arg' O.leaks O.is b.0 b.1) r))
 
-    cast_rows : (p1 (S (class_of (expr.Cast y s a at)) (values.Cast y s (class_of a))) ≡ true → RowFound home z d (expr.Cast y s a at)) → Matches (S (class_of (expr.Cast y s a at)) (values.Cast y s (class_of a))) → RowFound home z d (expr.Cast y s a at)
+    cast_rows : (copy_row (S (class_of (expr.Cast y s a at)) (values.Cast y s (class_of a))) ≡ true → RowFound home z d (expr.Cast y s a at)) → Matches (S (class_of (expr.Cast y s a at)) (values.Cast y s (class_of a))) → RowFound home z d (expr.Cast y s a at)
     cast_rows f h =
         let P : Type 0 = RowFound home z d (expr.Cast y s a at) in
         let v : rowed.Shape = S (class_of (expr.Cast y s a at)) (values.Cast y s (class_of a)) in
-        either P (p1 v) (p11 v || (p12 v || (p13 v || false))) f
-        (either P (p11 v) (p12 v || (p13 v || false))
+        either P (copy_row v) (zero_extension_row v || (sign_extension_row v || (truncation_row v || false))) f
+        (either P (zero_extension_row v) (sign_extension_row v || (truncation_row v || false))
         (λ e.
         let k = and_parts (not s) _ e in
         let q = and_parts (is_r (dest_of d)) _ k.1 in
         let u = and_parts (is_rm (class_of a)) (is_below (class_size (class_of a)) y) q.1 in
         extended false (not_true s k.0) q.0 u.0 u.1)
-        (either P (p12 v) (p13 v || false)
+        (either P (sign_extension_row v) (truncation_row v || false)
         (λ e.
         let k = and_parts s _ e in
         let q = and_parts (is_r (dest_of d)) _ k.1 in
         let u = and_parts (is_rm (class_of a)) (is_below (class_size (class_of a)) y) q.1 in
         extended true k.0 q.0 u.0 u.1)
-        (either P (p13 v) false
+        (either P (truncation_row v) false
         (λ e.
         let k = and_parts (not s) _ e in
         let q = and_parts (is_r (dest_of d)) _ k.1 in
@@ -249,7 +249,7 @@ module _ (frame : Frame) (home : Homes) (homing : IsHoming frame home) (z : Size
   -- a: the first operand, which stands beside the destination
   module _ (a b : Expr) (x : Arg) (p : Leaks) (i : IsArg home z a x p) (oa : Operand) (m : Beside z D.arg' x oa) where
     carried_row : (o : BinOp) (c : Expr) (inner at : Span) (k : Class) → rows.IsCarryOp o → IsFlagVariable home c → IsExpanded home b → (is_rmi (class_of b) ≡ true → HasType (value b) (place.word z)) → IsKept z b
-        → p3 (S k (values.Carry o oa (operand_of A d b))) ≡ true → RowFound home z d (expr.Bin o (expr.Bin o a b inner) c at)
+        → carrying_row (S k (values.Carry o oa (operand_of A d b))) ≡ true → RowFound home z d (expr.Bin o (expr.Bin o a b inner) c at)
     carried_row o c inner at k w g y t l h =
         let q = and_parts (is_rmi (class_of b)) _ h in
         let u = and_parts (not (are_inline oa (operand_of A d b))) (computes (swaps o) (dest_of d) oa (operand_of A d b)) q.1 in
@@ -267,11 +267,11 @@ module _ (frame : Frame) (home : Homes) (homing : IsHoming frame home) (z : Size
     P = RowFound home z d E
 
     -- it is no operand itself
-    pub no_move : (v : Value) → p1 (S (class_of E) v) ≡ true → ⊥
+    pub no_move : (v : Value) → copy_row (S (class_of E) v) ≡ true → ⊥
     no_move v h = two_not home is_rmi refl refl refl o a b at n x y (and_parts (is_rmi (class_of E)) _ (and_parts (is_rm (dest_of d)) _ h).1).0
 
     no_alone : Matches (S (class_of E) values.Alone) → ⊥
-    no_alone h = either ⊥ (p1 (S (class_of E) values.Alone)) false (no_move values.Alone) (none_more ⊥) h
+    no_alone h = either ⊥ (copy_row (S (class_of E) values.Alone)) false (no_move values.Alone) (none_more ⊥) h
 
     pub limits : IsKept z a × ((if is_shift o then count_field (Some z) (seen (at_size z) b) else (seen (at_size z) b).operand) ≡ None)
     limits = two_kept (at_size z) o a b at n l
@@ -308,19 +308,19 @@ module _ (frame : Frame) (home : Homes) (homing : IsHoming frame home) (z : Size
         let ob = operand_of A d b in
         let w : Value = values.Two o oa ob in
         let v : rowed.Shape = S (class_of E) w in
-        either Q (p1 v) (p2 v || (p5 v || (p6 v || (p8 v || (p9 v || (p10 v || false)))))) (λ e. absurd (no_move w e))
-        (either Q (p2 v) (p5 v || (p6 v || (p8 v || (p9 v || (p10 v || false)))))
+        either Q (copy_row v) (arithmetic_row v || (times_row v || (times_inline_row v || (quotient_row v || (inline_shift_row v || (masked_shift_row v || false)))))) (λ e. absurd (no_move w e))
+        (either Q (arithmetic_row v) (times_row v || (times_inline_row v || (quotient_row v || (inline_shift_row v || (masked_shift_row v || false)))))
         (λ e. (and_parts (is_rmi (class_of a)) _ (and_parts (is_rm (dest_of d)) _ (and_parts (not (are_inline oa ob)) _ (and_parts (is_rmi (class_of b)) _ (and_parts (adds o || (joins_bits o && true)) _ e).1).1).1).1).0)
-        (either Q (p5 v) (p6 v || (p8 v || (p9 v || (p10 v || false))))
+        (either Q (times_row v) (times_inline_row v || (quotient_row v || (inline_shift_row v || (masked_shift_row v || false))))
         (λ e.
         (and_parts (is_rmi (class_of a)) _ (and_parts (is_rm (dest_of d)) _ (and_parts (is_rm (class_of b)) _ (and_parts (is_wide (class_size (dest_of d))) _ (and_parts (is_r (dest_of d)) _ (and_parts (multiplies o) _ e).1).1).1).1).1).0)
-        (either Q (p6 v) (p8 v || (p9 v || (p10 v || false)))
+        (either Q (times_inline_row v) (quotient_row v || (inline_shift_row v || (masked_shift_row v || false)))
         (λ e. or_left (is_rm (class_of a)) (is_i (class_of a)) (and_parts (is_rm (class_of a)) _ (and_parts (is_wide (class_size (dest_of d))) _ (and_parts (is_r (dest_of d)) _ (and_parts (multiplies o) _ e).1).1).1).0)
-        (either Q (p8 v) (p9 v || (p10 v || false))
+        (either Q (quotient_row v) (inline_shift_row v || (masked_shift_row v || false))
         (λ e. (and_parts (is_rmi (class_of a)) _ (and_parts (is_long (class_size (dest_of d))) _ (and_parts (is_r (dest_of d)) _ (and_parts (divides o) _ e).1).1).1).0)
-        (either Q (p9 v) (p10 v || false)
+        (either Q (inline_shift_row v) (masked_shift_row v || false)
         (λ e. (and_parts (is_rmi (class_of a)) _ (and_parts (is_rm (dest_of d)) _ (and_parts (is_i (class_of b)) _ (and_parts (is_shift o) _ e).1).1).1).0)
-        (either Q (p10 v) false
+        (either Q (masked_shift_row v) false
         (λ e.
         (and_parts (is_rmi (class_of a)) _ (and_parts (is_rm (dest_of d)) _ (and_parts (masks (is_longest (option_or (class_size (dest_of d)) (class_size (class_of a)))) (class_of b)) _ (and_parts (is_shift o) _ e).1).1).1).0)
         (none_more Q)))))))
@@ -340,7 +340,7 @@ module _ (frame : Frame) (home : Homes) (homing : IsHoming frame home) (z : Size
         → (c : Bool) → carries o p ≡ c → Matches (S (class_of E) (if c then values.Carry o (operand_of A d u) (operand_of A d v) else values.Alone)) → P
     flagged_by p u v inner s m xu xv k false e h = absurd (no_alone h)
     flagged_by p u v inner s m xu xv k true e h =
-        either P (p1 w) (p3 w || false) (λ e. absurd (no_move (values.Carry o (operand_of A d u) (operand_of A d v)) e)) (either P (p3 w) false by_carry (none_more P)) h
+        either P (copy_row w) (carrying_row w || false) (λ e. absurd (no_move (values.Carry o (operand_of A d u) (operand_of A d v)) e)) (either P (carrying_row w) false by_carry (none_more P)) h
       where
         w : rowed.Shape
         w = S (class_of E) (values.Carry o (operand_of A d u) (operand_of A d v))
@@ -362,7 +362,7 @@ module _ (frame : Frame) (home : Homes) (homing : IsHoming frame home) (z : Size
             let k = two_kept (at_size z) p u v inner m (subst (IsKept z) s limits.0) in
             (k.0, if_false (is_shift p) _ _ _ (no_shift p arith_p) k.1)
 
-        by_carry : p3 w ≡ true → P
+        by_carry : carrying_row w ≡ true → P
         by_carry g =
             let q = and_parts (is_rmi (class_of v)) _ g in
             let r = and_parts (not (are_inline (operand_of A d u) (operand_of A d v))) _ q.1 in
@@ -414,16 +414,16 @@ module _ (frame : Frame) (home : Homes) (homing : IsHoming frame home) (z : Size
       let w = expr.Neg a at in
       let P : Type 0 = RowFound home z d w in
       let v : Value = values.One (operand_of A d a) in
-      either P (p1 (S (class_of w) v)) (p4 (S (class_of w) v) || false) (move_row w v (a_minus a at n x) t l)
-      (either P (p4 (S (class_of w) v)) false
+      either P (copy_row (S (class_of w) v)) (unary_row (S (class_of w) v) || false) (move_row w v (a_minus a at n x) t l)
+      (either P (unary_row (S (class_of w) v)) false
       (minus_row a at n x (negated_type a at (typed_as w (Expr-F.Neg a at) (place.word z) (out_neg a at) t)) (within_kept w (minus_inline a at ∙ n) l)) (none_more P))
       (at_form w (Expr-F.Neg a at) (out_neg a at) h)
   value_row e (a_denial a at n x) t l s q h =
       let w = expr.Not a at in
       let P : Type 0 = RowFound home z d w in
       let v : Value = values.One (operand_of A d a) in
-      either P (p1 (S (class_of w) v)) (p4 (S (class_of w) v) || false) (move_row w v (a_denial a at n x) t l)
-      (either P (p4 (S (class_of w) v)) false
+      either P (copy_row (S (class_of w) v)) (unary_row (S (class_of w) v) || false) (move_row w v (a_denial a at n x) t l)
+      (either P (unary_row (S (class_of w) v)) false
       (denial_row a at n x (inverted_type a at (typed_as w (Expr-F.Not a at) (place.word z) (out_not a at) t)) (within_kept w (denial_inline a at ∙ n) l)) (none_more P))
       (at_form w (Expr-F.Not a at) (out_not a at) h)
   value_row e (a_cast y g a at x) t l s q h =
@@ -442,7 +442,7 @@ module _ (frame : Frame) (home : Homes) (homing : IsHoming frame home) (z : Size
     abbrev pub here : Span
     here = left_span d
 
-    pub no_other : (v : Value) → p1 (S class.Other v) ≡ true → ⊥
+    pub no_other : (v : Value) → copy_row (S class.Other v) ≡ true → ⊥
     no_other v h = false≢true (and_parts (is_rm (dest_of d)) false h).1
 
     pub read : IsArg home z r D.arg' D.leaks
@@ -481,8 +481,8 @@ module _ (frame : Frame) (home : Homes) (homing : IsHoming frame home) (z : Size
         let P : Type 0 = RowFound home z d (expr.Bin p (expr.Bin o r a here) c here) in
         let u = whole_type p a c inner k j.sum j.arith t in
         let n = (two_kept (at_size z) p a c inner m (subst (IsKept z) k (if_false (is_shift o) _ _ _ (no_shift o j.arith) l))).0 in
-        either P (p1 w) (p3 w || false) (λ i. absurd (no_other (values.Carry o (itself d) (operand_of A d a)) i))
-        (either P (p3 w) false
+        either P (copy_row w) (carrying_row w || false) (λ i. absurd (no_other (values.Carry o (itself d) (operand_of A d a)) i))
+        (either P (carrying_row w) false
         (λ i.
         subst (λ w. RowFound home z d (expr.Bin w (expr.Bin o r a here) c here)) (sym j.same)
         (carried_row r a D.arg' D.leaks read (itself d) (beside_itself frame home homing z d D rd fd) o c here here class.Other j.is (flag_variable home c xc g) xa

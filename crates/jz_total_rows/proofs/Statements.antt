@@ -32,7 +32,7 @@ use Rattle.jz_select.specs.declared.shape.Shape as rowed
 use Rattle.jz_select.specs.declared.shape.Shape.TheVariants as shapes
 use Rattle.jz_select.specs.Places.{Layer}
 use Rattle.jz_select.specs.Operands.{var_class, class_of, dest_of}
-use Rattle.jz_select.specs.Rows.{is_r, is_m, is_i, is_rm, is_rmi, adds, joins_bits, multiplies, are_inline, p1, p2, p3, p4, p5, p6, p8, p9, p10, p11, p12, p13}
+use Rattle.jz_select.specs.Rows.{is_r, is_m, is_i, is_rm, is_rmi, adds, joins_bits, multiplies, are_inline, copy_row, arithmetic_row, carrying_row, unary_row, times_row, times_inline_row, quotient_row, inline_shift_row, masked_shift_row, zero_extension_row, sign_extension_row, truncation_row}
 use Rattle.jz_select.specs.Selected.{Row, rows, FirstMatches, Tells, IsSelected}
 use Rattle.jz_select.specs.Shapes.{whichever, value_layer, update_layer, assign_of, kind_layer, shape_of}
 use Rattle.jz_judgement.specs.Places as place
@@ -89,37 +89,37 @@ module _ (d c : Class) where
   abbrev P : Type 0
   P = is_rm d ≡ true
 
-  by_move : (v : Value) → p1 (S v) ≡ true → P
+  by_move : (v : Value) → copy_row (S v) ≡ true → P
   by_move v h = (and_parts (is_rm d) _ h).0
 
   by_cast : (b : Bool) (r : Bool) → (b && (is_r d && r)) ≡ true → P
   by_cast b r h = r_rm d (and_parts (is_r d) r (and_parts b _ h).1).0
 
   dest_rm : (v : Value) → Matches (S v) → P
-  dest_rm values.Alone h = either P (p1 (S values.Alone)) false (by_move values.Alone) (none_more P) h
+  dest_rm values.Alone h = either P (copy_row (S values.Alone)) false (by_move values.Alone) (none_more P) h
   dest_rm (values.One a) h =
-      let v : Value = values.One a in either P (p1 (S v)) (p4 (S v) || false) (by_move v) (either P (p4 (S v)) false (λ e. (and_parts (is_rm d) _ e).0) (none_more P)) h
+      let v : Value = values.One a in either P (copy_row (S v)) (unary_row (S v) || false) (by_move v) (either P (unary_row (S v)) false (λ e. (and_parts (is_rm d) _ e).0) (none_more P)) h
   dest_rm (values.Carry o a b) h =
       let v : Value = values.Carry o a b in
-      either P (p1 (S v)) (p3 (S v) || false) (by_move v)
-      (either P (p3 (S v)) false (λ e. (and_parts (is_rm d) _ (and_parts (not (are_inline a b)) _ (and_parts (is_rmi b.class) _ e).1).1).0) (none_more P)) h
+      either P (copy_row (S v)) (carrying_row (S v) || false) (by_move v)
+      (either P (carrying_row (S v)) false (λ e. (and_parts (is_rm d) _ (and_parts (not (are_inline a b)) _ (and_parts (is_rmi b.class) _ e).1).1).0) (none_more P)) h
   dest_rm (values.Cast z s k) h =
       let v : Value = values.Cast z s k in
-      either P (p1 (S v)) (p11 (S v) || (p12 (S v) || (p13 (S v) || false))) (by_move v)
-      (either P (p11 (S v)) (p12 (S v) || (p13 (S v) || false)) (by_cast (not s) _)
-      (either P (p12 (S v)) (p13 (S v) || false) (by_cast s _) (either P (p13 (S v)) false (by_cast (not s) _) (none_more P))))
+      either P (copy_row (S v)) (zero_extension_row (S v) || (sign_extension_row (S v) || (truncation_row (S v) || false))) (by_move v)
+      (either P (zero_extension_row (S v)) (sign_extension_row (S v) || (truncation_row (S v) || false)) (by_cast (not s) _)
+      (either P (sign_extension_row (S v)) (truncation_row (S v) || false) (by_cast s _) (either P (truncation_row (S v)) false (by_cast (not s) _) (none_more P))))
       h
   dest_rm (values.Two o a b) h =
       let v : Value = values.Two o a b in
       let w : rowed.Shape = S v in
-      either P (p1 w) (p2 w || (p5 w || (p6 w || (p8 w || (p9 w || (p10 w || false)))))) (by_move v)
-      (either P (p2 w) (p5 w || (p6 w || (p8 w || (p9 w || (p10 w || false)))))
+      either P (copy_row w) (arithmetic_row w || (times_row w || (times_inline_row w || (quotient_row w || (inline_shift_row w || (masked_shift_row w || false)))))) (by_move v)
+      (either P (arithmetic_row w) (times_row w || (times_inline_row w || (quotient_row w || (inline_shift_row w || (masked_shift_row w || false)))))
       (λ e. (and_parts (is_rm d) _ (and_parts (not (are_inline a b)) _ (and_parts (is_rmi b.class) _ (and_parts (adds o || (joins_bits o && true)) _ e).1).1).1).0)
-      (either P (p5 w) (p6 w || (p8 w || (p9 w || (p10 w || false)))) (λ e. r_rm d (and_parts (is_r d) _ (and_parts (multiplies o) _ e).1).0)
-      (either P (p6 w) (p8 w || (p9 w || (p10 w || false))) (λ e. r_rm d (and_parts (is_r d) _ (and_parts (multiplies o) _ e).1).0)
-      (either P (p8 w) (p9 w || (p10 w || false)) (λ e. r_rm d (and_parts (is_r d) _ (and_parts (divides o) _ e).1).0)
-      (either P (p9 w) (p10 w || false) (λ e. (and_parts (is_rm d) _ (and_parts (is_i b.class) _ (and_parts (is_shift o) _ e).1).1).0)
-      (either P (p10 w) false (λ e. (and_parts (is_rm d) _ (and_parts _ _ (and_parts (is_shift o) _ e).1).1).0) (none_more P)))))))
+      (either P (times_row w) (times_inline_row w || (quotient_row w || (inline_shift_row w || (masked_shift_row w || false)))) (λ e. r_rm d (and_parts (is_r d) _ (and_parts (multiplies o) _ e).1).0)
+      (either P (times_inline_row w) (quotient_row w || (inline_shift_row w || (masked_shift_row w || false))) (λ e. r_rm d (and_parts (is_r d) _ (and_parts (multiplies o) _ e).1).0)
+      (either P (quotient_row w) (inline_shift_row w || (masked_shift_row w || false)) (λ e. r_rm d (and_parts (is_r d) _ (and_parts (divides o) _ e).1).0)
+      (either P (inline_shift_row w) (masked_shift_row w || false) (λ e. (and_parts (is_rm d) _ (and_parts (is_i b.class) _ (and_parts (is_shift o) _ e).1).1).0)
+      (either P (masked_shift_row w) false (λ e. (and_parts (is_rm d) _ (and_parts _ _ (and_parts (is_shift o) _ e).1).1).0) (none_more P)))))))
       h
 
 pub assigned_rm : (d : Lval) (o : Option BinOp) (e : Expr) → Matches (assign_of (whichever A) None d o e) → is_rm (dest_of d) ≡ true

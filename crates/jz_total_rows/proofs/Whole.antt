@@ -24,7 +24,7 @@ use Rattle.jz_select.specs.InnerLayers.{flags_layer}
 use Rattle.jz_select.specs.Operands.{var_class, class_layer, class_of, dest_of}
 use Rattle.jz_select.proofs.Conditions.{flags_out}
 use Rattle.jz_one_row.proofs.Outs.{out_num, out_bool, out_bin, out_not}
-use Rattle.jz_select.specs.Rows.{is_r, is_i, is_rm, is_wide, class_size, p14}
+use Rattle.jz_select.specs.Rows.{is_r, is_i, is_rm, is_wide, class_size, conditional_row}
 use Rattle.jz_select.specs.Shapes.{whichever, has_flags, is_test, assign_of}
 use Rattle.jz_judgement.specs.Places as place
 use Rattle.jz_judgement.specs.HasType as judged
@@ -288,12 +288,12 @@ module _ (frame : Frame) (home : Homes) (homing : IsHoming frame home) (d : Lval
           (updated_size o r e (left_span d) t.size b.arith (read_size d r g ∙ n) (says_own home e u.0 t.size y u.1 b.says) (out-Expr e) refl)
 
   -- ---- `r = o if c`
-  pub chosen_only : (c : Bool) (e : Expr) → Matches (shapes.Conditional (dest_of d) (class_of e) c) → p14 (shapes.Conditional (dest_of d) (class_of e) c) ≡ true
-  chosen_only c e h = let P : Type 0 = p14 (shapes.Conditional (dest_of d) (class_of e) c) ≡ true in either P (p14 (shapes.Conditional (dest_of d) (class_of e) c)) false (λ i. i) (none_more P) h
+  pub chosen_only : (c : Bool) (e : Expr) → Matches (shapes.Conditional (dest_of d) (class_of e) c) → conditional_row (shapes.Conditional (dest_of d) (class_of e) c) ≡ true
+  chosen_only c e h = let P : Type 0 = conditional_row (shapes.Conditional (dest_of d) (class_of e) c) ≡ true in either P (conditional_row (shapes.Conditional (dest_of d) (class_of e) c)) false (λ i. i) (none_more P) h
 
   -- the register, its operand, and that the condition is one of an instruction
   pub chosen_parts : (e k : Expr) (t : TypedLeft d (value e)) → IsExpanded home e → is_rm (dest_of d) ≡ true → FieldsKept d None e (Some k)
-      → p14 (shapes.Conditional (dest_of d) (class_of e) (has_flags k)) ≡ true → IsChosen home d e × (has_flags k ≡ true)
+      → conditional_row (shapes.Conditional (dest_of d) (class_of e) (has_flags k)) ≡ true → IsChosen home d e × (has_flags k ≡ true)
   chosen_parts e k t y r f h =
       let z = t.size in
       let p = and_parts (is_r (dest_of d)) _ h in
@@ -345,7 +345,7 @@ module _ (frame : Frame) (home : Homes) (homing : IsHoming frame home) (d : Lval
           (free_or (is_free (to_register (Some d)) None e) (option_or (left_sizes (d ∷ [])) (own_size e)) role.Operand e f (and_false (to_register (Some d)) (is_inline e) (not_inline h))))
 
   pub chosen_there : (e k : Expr) (at : Span) (t : TypedLeft d (value e)) → IsExpanded home e → IsExpanded home k → HasType (value k) place.truth → IsComparison k → is_rm (dest_of d) ≡ true → FieldsKept d None e (Some k)
-      → p14 (shapes.Conditional (dest_of d) (class_of e) (has_flags k)) ≡ true → HasRowOperations home (assign (d ∷ []) None e (Some k) at)
+      → conditional_row (shapes.Conditional (dest_of d) (class_of e) (has_flags k)) ≡ true → HasRowOperations home (assign (d ∷ []) None e (Some k) at)
   chosen_there e k at t y u v c r f h =
       let parts = chosen_parts e k t y r f h in
       let C = parts.0 in

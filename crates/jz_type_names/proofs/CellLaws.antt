@@ -66,17 +66,17 @@ cells_var v = by_layer _ _ (expr.rolls-Var v)
 pub cells_cell : (v : Var) (i : Expr) → cells_in (expr.Cell v i) ≡ (v, i) ∷ (cells_in i ++ [])
 cells_cell v i = by_layer _ _ (expr.rolls-Cell v i) ∙ ap (λ l. (v, i) ∷ l) (sym (append-nil (cells_in i)))
 
-pub cells_load : (a : Access) → cells_in (expr.Load a) ≡ cells_in (out-Access a).at ++ []
-cells_load a = by_layer _ _ (expr.rolls-Load a) ∙ sym (append-nil _)
+pub cells_load : (a : Access) → cells_in (expr.Load a) ≡ cells_in (out-Access a).at
+cells_load a = by_layer _ _ (expr.rolls-Load a)
 
-pub cells_neg : (e : Expr) (s : Span) → cells_in (expr.Neg e s) ≡ cells_in e ++ []
-cells_neg e s = by_layer _ _ (expr.rolls-Neg e s) ∙ sym (append-nil _)
+pub cells_neg : (e : Expr) (s : Span) → cells_in (expr.Neg e s) ≡ cells_in e
+cells_neg e s = by_layer _ _ (expr.rolls-Neg e s)
 
-pub cells_not : (e : Expr) (s : Span) → cells_in (expr.Not e s) ≡ cells_in e ++ []
-cells_not e s = by_layer _ _ (expr.rolls-Not e s) ∙ sym (append-nil _)
+pub cells_not : (e : Expr) (s : Span) → cells_in (expr.Not e s) ≡ cells_in e
+cells_not e s = by_layer _ _ (expr.rolls-Not e s)
 
-pub cells_cast : (z : Size) (b : Bool) (e : Expr) (s : Span) → cells_in (expr.Cast z b e s) ≡ cells_in e ++ []
-cells_cast z b e s = by_layer _ _ (expr.rolls-Cast z b e s) ∙ sym (append-nil _)
+pub cells_cast : (z : Size) (b : Bool) (e : Expr) (s : Span) → cells_in (expr.Cast z b e s) ≡ cells_in e
+cells_cast z b e s = by_layer _ _ (expr.rolls-Cast z b e s)
 
 pub cells_bin : (o : BinOp) (a b : Expr) (s : Span) → cells_in (expr.Bin o a b s) ≡ cells_in a ++ (cells_in b ++ [])
 cells_bin o a b s = by_layer _ _ (expr.rolls-Bin o a b s) ∙ ap (λ l. cells_in a ++ l) (sym (append-nil _))

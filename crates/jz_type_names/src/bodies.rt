@@ -25,12 +25,7 @@ fn add_nested<'a>(list: &mut Vec<&'a Stmt>, kind: &'a StmtKind) -> Result<(), Al
     ensures { OnOk result (Gains list.old.items list.new.items (nested_of kind.now)) }
 {
     match kind {
-        StmtKind::Assign {
-            to: _,
-            op: _,
-            rhs: _,
-            cond: _,
-        } => Ok(()),
+        StmtKind::Assign { .. } => Ok(()),
         StmtKind::If(_, yes, no) => {
             add_statements(list, yes)?;
             add_statements(list, no)?;
@@ -53,13 +48,7 @@ fn add_nested<'a>(list: &mut Vec<&'a Stmt>, kind: &'a StmtKind) -> Result<(), Al
             add_statements(list, body)?;
             Ok(())
         }
-        StmtKind::For {
-            counter: _,
-            from: _,
-            down: _,
-            to: _,
-            body,
-        } => {
+        StmtKind::For { body, .. } => {
             add_statements(list, body)?;
             Ok(())
         }

@@ -39,6 +39,19 @@ struct Parts<'a> {
     second: Option<&'a Expr>,
 }
 
+/// An expression that has this operand alone.
+fn operand(first: &Expr) -> Parts<'_>
+    ensures names { part_names result ≡ names_in first.now }
+    ensures cells { part_cells result ≡ cells_in first.now }
+    ensures count { count_of (operands result) ≡ count_in first.now }
+{
+    Parts {
+        var: None,
+        first: Some(first),
+        second: None,
+    }
+}
+
 fn take_apart(expr: &Expr) -> Parts<'_>
     ensures names { names_in expr.now ≡ part_names result }
     ensures cells { cells_in expr.now ≡ part_cells result }
@@ -65,31 +78,10 @@ fn take_apart(expr: &Expr) -> Parts<'_>
             first: Some(at.get()),
             second: None,
         },
-        Expr::Load(access) => Parts {
-            var: None,
-            first: Some(access.at.get()),
-            second: None,
-        },
-        Expr::Neg(e, _) => Parts {
-            var: None,
-            first: Some(e.get()),
-            second: None,
-        },
-        Expr::Not(e, _) => Parts {
-            var: None,
-            first: Some(e.get()),
-            second: None,
-        },
-        Expr::Cast {
-            size: _,
-            signed: _,
-            e,
-            span: _,
-        } => Parts {
-            var: None,
-            first: Some(e.get()),
-            second: None,
-        },
+        Expr::Load(access) => operand(access.at.get()),
+        Expr::Neg(e, _) => operand(e.get()),
+        Expr::Not(e, _) => operand(e.get()),
+        Expr::Cast { e, .. } => operand(e.get()),
         Expr::Bin(_, left, right, _) => Parts {
             var: None,
             first: Some(left.get()),

@@ -297,7 +297,8 @@ fn unroll_instruction(
     out: &mut Seq<Stmt>,
 ) -> Result<Step, Failure<Span>>
     ensures { let names = names_in unroller.now.vars.now in
-        let done = instruction named.now.to.now named.now.name.now named.now.args.now named.now.at in
+        let done = instruction named.now.to.now named.now.name.now named.now.args.now
+        named.now.at in
         let e = numbers_in known.now in
         IfAnswered result
         (OrElse (AddsStep names (op_node done) known.now known.now out.old out.new)
