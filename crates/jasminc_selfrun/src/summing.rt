@@ -2,16 +2,15 @@
 
 ghost use Rattle.std.specs.Prelude.{◌≡◌, ◌++◌, IfOk, OnOk, length, map};
 ghost use Rattle.std.specs.List.{concat};
-ghost use Rattle.jz_listing.specs.Listing.{kind_text, ct_text};
 ghost use Rattle.jasminc_selfrun.specs.Summary.{origin_line, number_line, value_line, ct_line};
 ghost use Rattle.jasminc_selfrun.specs.Summary.{summary_text};
 
 use jasminc_lines::write_quadword;
 use jz_data::Seq;
-use jz_io::{Bytes, Ct, CtKind};
+use jz_io::{Bytes, Ct};
 use jz_leak::Events;
-use jz_listing::{Arg, Compiled};
-use jz_text::{write_number, write_span};
+use jz_listing::{Arg, Compiled, write_ct};
+use jz_text::write_number;
 use std::alloc::{AllocError, Global};
 use x64_insn::State;
 
@@ -74,32 +73,6 @@ fn write_values(
         write_value(alloc, text, state, ret)?;
     }
     Ok(())
-}
-
-fn kind_name(kind: CtKind) -> &'static str
-    ensures { result.now ≡ kind_text kind }
-{
-    match kind {
-        CtKind::Branch => "Branch",
-        CtKind::Address => "Address",
-        CtKind::Divide => "Divide",
-    }
-}
-
-fn write_ct(text: &mut Vec<u8>, ct: &Ct) -> Result<(), AllocError>
-    ensures { OnOk result (text.new.items ≡ text.old.items ++ ct_text ct.now) }
-{
-    match ct {
-        Ct::Yes => text.extend_from_slice(b"yes"),
-        Ct::No { span, kind, var } => {
-            text.extend_from_slice(b"no ")?;
-            write_span(text, *span)?;
-            text.extend_from_slice(b" ")?;
-            text.extend_from_slice(kind_name(*kind).as_bytes())?;
-            text.extend_from_slice(b" ")?;
-            text.extend_from_slice(var.as_str().as_bytes())
-        }
-    }
 }
 
 #[tactic(auto, unfolding(crate::specs::Summary::ct_line))]

@@ -1,5 +1,5 @@
 //! The conditions that a function asks of the facts at each place, and its first alarm. There is no
-//! code here yet.
+//! code here.
 #![tactic(auto)]
 
 mod laws;

@@ -5,12 +5,10 @@ ghost use Rattle.jz_facts.specs.Facts.{is_among, multiples};
 ghost use Rattle.jz_facts.specs.Intervals.{size_or_64};
 ghost use Rattle.x64_insn.specs.Sizes.{bytes_of};
 ghost use Rattle.jz_meaning.specs.Values as values;
-ghost use Rattle.jz_meaning.specs.Intrinsics as intrinsics;
 ghost use Rattle.jz_terms.specs.Terms.{size_in, term_of};
 
 use jz_meaning::{gives_word, own_size};
-use jz_run_assign::left_sizes;
-use jz_tree::{BinOp, Expr, Instance, Intrinsic, Lval, Seq, is_shift};
+use jz_tree::{BinOp, Expr, is_shift};
 use x64_insn::Size;
 
 /// The size that an expression has by itself.
@@ -70,30 +68,5 @@ pub(crate) fn bytes(size: Size) -> u64
         Size::S16 => 2,
         Size::S32 => 4,
         Size::S64 => 8,
-    }
-}
-
-/// The size of the first operand that has one.
-fn first_size(operands: &[Expr]) -> Option<Size>
-    ensures { result ≡ intrinsics.first_size operands.now }
-{
-    for operand in operands {
-        let size = own_size(operand);
-        if size.is_some() {
-            return size;
-        }
-    }
-    None
-}
-
-/// The size of the words of an instruction.
-pub(crate) fn intrinsic_size(instance: Instance, to: &Seq<Lval>, operands: &[Expr]) -> Option<Size>
-    ensures { result ≡ intrinsics.intrinsic_size instance.name instance.size to.now
-        operands.now }
-{
-    match instance.name {
-        Intrinsic::Setcc => Some(Size::S8),
-        Intrinsic::Lea => Some(Size::S64),
-        _ => instance.size.or(left_sizes(to).or(first_size(operands))),
     }
 }

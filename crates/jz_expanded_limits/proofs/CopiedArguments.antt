@@ -54,7 +54,7 @@ use Rattle.jz_kept_limits.proofs.Turned.{asking}
 use Rattle.jz_kept_limits.proofs.Operations.{assignment_within}
 use Rattle.jz_expanded_limits.proofs.Known.{KnowsOnly, Knows, value_back}
 use Rattle.jz_expanded_limits.proofs.CopiedParts.{no_int, part_turned, variable_left, left_turned}
-use Rattle.jz_expanded_limits.specs.Sizes.{statements_in}
+use Rattle.jz_meaning.specs.Lengths.{statements_in}
 use Rattle.jz_expanded_limits.proofs.Costs.{at_most, one_more}
 use Rattle.jz_expanded_limits.proofs.CopiedSets.{Good}
 

@@ -31,7 +31,7 @@ use Rattle.jz_unrolling_laws.specs.CalledBodies.{Inlines, in_source, IsTextIf, I
 use Rattle.jz_copied_values.proofs.StillWalks.{still_op}
 use Rattle.jz_copied_values.proofs.CopiedWholes.{whole_in, whole_text}
 use Rattle.jz_copied_values.proofs.CopiedNumbers.{IsCopy, copied_int}
-use Rattle.jz_expanded_limits.specs.Sizes.{statements_in}
+use Rattle.jz_meaning.specs.Lengths.{statements_in}
 use Rattle.jz_expanded_limits.proofs.CopiedParts.{operation_within}
 use Rattle.jz_expanded_limits.proofs.Known.{Knows, value_back, Ends, ends_here, set_ends}
 

@@ -37,7 +37,7 @@ use Rattle.jz_copied_values.proofs.CopiedNumbers.{IsCopy}
 use Rattle.jz_walked_laws.proofs.Ones.{OnlyOnes, ones_both, Takes, Asks}
 use Rattle.jz_kept_limits.proofs.Firsts.{IsClean, clean_to}
 use Rattle.jz_kept_limits.proofs.Turned.{asking}
-use Rattle.jz_expanded_limits.specs.Sizes.{statements_in}
+use Rattle.jz_meaning.specs.Lengths.{statements_in}
 use Rattle.jz_expanded_limits.proofs.Costs.{cost, then_most, then_part, both_most, taken_cost, stays_cost, loop_cost, once_cost, within_cost, round_cost}
 use Rattle.jz_expanded_limits.proofs.CopiedParts.{test_within}
 use Rattle.jz_expanded_limits.proofs.CopiedSets.{Good}

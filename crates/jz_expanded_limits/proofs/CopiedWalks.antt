@@ -31,7 +31,7 @@ use Rattle.jz_copied_values.proofs.CalledNumbers.{marked_numbers, mark_elsewhere
 use Rattle.jz_copied_values.proofs.CopiedForgetting.{vars_own}
 use Rattle.jz_walked_laws.proofs.Ones.{OnlyOnes, ones_both, no_limits, Takes, Asks, arms_met}
 use Rattle.jz_expanded_limits.proofs.Known.{Knows, Ends, ends_here, ends_then}
-use Rattle.jz_expanded_limits.specs.Sizes.{statements_in}
+use Rattle.jz_meaning.specs.Lengths.{statements_in}
 use Rattle.jz_expanded_limits.proofs.Costs.{cost, at_most, op_cost, behind_cost, each_cost, call_cost}
 use Rattle.jz_expanded_limits.proofs.CopiedSets.{Good, operation_done}
 use Rattle.jz_expanded_limits.proofs.CopiedArguments.{arguments_lead, results_lead, arguments_none}

@@ -9,7 +9,7 @@ use Rattle.jz_change.specs.Changes.{Change}
 use Rattle.jz_pass.specs.Unrolling.{u_done, u_op, u_quiet, u_if, u_arm, u_while, u_once, u_for, Unrolls}
 use Rattle.jz_pass.specs.Rewriting.{Rewrites, knowing_of}
 use Rattle.jz_arrays.specs.Arrays.{assigns, instructs, tests, arrays}
-use Rattle.jz_expanded_limits.specs.Sizes.{statements_in}
+use Rattle.jz_meaning.specs.Lengths.{statements_in}
 use Rattle.jz_expanded_limits.specs.WithinBodies.{IsWithinBody}
 use Rattle.jz_expanded_limits.proofs.CopiedSets.{Good}
 

@@ -39,7 +39,8 @@ use Rattle.jz_expansion.specs.CopiedKinds.{copied_kinds}
 use Rattle.jz_expansion.proofs.Whole.{ready_law}
 use Rattle.jz_expansion.specs.Expansions.{IsExpansion}
 use Rattle.jz_expanded_limits.specs.WithinBodies.{IsWithinBody}
-use Rattle.jz_expanded_limits.specs.Sizes.{statements_in, ExpansionsAreShort}
+use Rattle.jz_meaning.specs.Lengths.{statements_in}
+use Rattle.jz_expanded_limits.specs.Sizes.{ExpansionsAreShort}
 use Rattle.jz_expanded_limits.specs.ExpandedLimits.{ExpansionsAreWithin}
 use Rattle.jz_expanded_limits.proofs.Known.{Knows}
 use Rattle.jz_expanded_limits.proofs.Costs.{cost}

@@ -1,25 +1,14 @@
 -- How many statements the expansion of an export function of a typed text has.
-use Rattle.std.specs.Prelude.{ℕ, ◌+◌, ◌*◌, ◌≤◌, ◌≡◌, true, Contains}
+use Rattle.std.specs.Prelude.{ℕ, ◌*◌, ◌≤◌, ◌≡◌, true, Contains}
 use Rattle.jz_tree.specs.declared.program.Fun.{Fun}
 use Rattle.jz_tree.specs.declared.program.Program.{Program}
 use Rattle.jz_type_rows.specs.Exports.{is_exported}
 use Rattle.jz_types.specs.TypedPrograms.{IsTypedProgram}
 use Rattle.jz_texts.specs.Texts.{IsText}
-use Rattle.jz_runs.specs.Trees.{done, op, quiet, choose, loop, each, call}
-use Rattle.jz_meaning.specs.Statements.{Block}
+use Rattle.jz_meaning.specs.Lengths.{statements_in}
 use Rattle.jz_change.specs.Changes.{Change}
 use Rattle.jz_function_runs.specs.FunctionRuns.{plain_body}
 use Rattle.jz_expansion.specs.Expansions.{IsExpansion}
-
--- those in branches and loops too; a mark is none
-abbrev pub statements_in : Block → ℕ
-statements_in done = 0
-statements_in (op o r) = 1 + statements_in r
-statements_in (quiet o r) = statements_in r
-statements_in (choose c a b r) = 1 + statements_in a + statements_in b + statements_in r
-statements_in (loop q p c b r) = 1 + statements_in p + statements_in b + statements_in r
-statements_in (each f b r) = 1 + statements_in b + statements_in r
-statements_in (call c b r) = 1 + statements_in b + statements_in r
 
 -- nine for each statement in expanded order at most, as a call may have with its copies of arguments
 -- and results; so there are fewer than 2^20

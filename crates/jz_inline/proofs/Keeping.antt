@@ -1,5 +1,5 @@
 -- Inlining over the source's runs keeps them.
-use Rattle.std.proofs.Common.{◌≡◌, ℕ, [], Some, None, refl, ap, sym, ◌∙◌, subst, arith, ℤ}
+use Rattle.std.proofs.Common.{◌≡◌, ℕ, ◌≤◌, [], Some, None, refl, ap, sym, ◌∙◌, subst, arith, ℤ}
 use Rattle.jz_tree.specs.declared.program.Fun.{Fun}
 use Rattle.jz_tree.specs.Spellings.{spelled}
 use Rattle.jz_runs.specs.Trees.{done, op, quiet, choose, loop, each, call}
@@ -29,24 +29,24 @@ use Rattle.jz_inline.proofs.Naming.{sets_has, callee_below, callee_within}
 use Rattle.jz_inline.proofs.Filling as enter
 use Rattle.jz_inline.proofs.Leaving as leave
 
-operation_so : (x : ScopeCopy) (c : ℕ) (o : Operation) (s t : State) → IsOperation x.scope o → IsBelow x c → Stands x s t → Alike (λ s1 t1. Stands x s1 t1 × Within x c t t1) (does o s) (does (op_in x.names o) t)
+pub operation_so : (x : ScopeCopy) (c : ℕ) (o : Operation) (s t : State) → IsOperation x.scope o → IsBelow x c → Stands x s t → Alike (λ s1 t1. Stands x s1 t1 × Within x c t t1) (does o s) (does (op_in x.names o) t)
 operation_so x c (assign to o e cond at) s t i b st = assigned_so x c b to o e cond at s t st i.0 i.1 i.2
 operation_so x c (instruction to n args at) s t i b st = instruction_so x c b (spelled n) to args at s t st i.0 i.1
 operation_so x c (unset vs) s t i b st = absurd i
 operation_so x c (meaningless at) s t i b st = both_stuck
 
-counts_so : (x : ScopeCopy) (f : Counter) (s t : State) → IsCounter x.scope f → Stands x s t → counts (counter_in x.names f) t ≡ counts f s
+pub counts_so : (x : ScopeCopy) (f : Counter) (s t : State) → IsCounter x.scope f → Stands x s t → counts (counter_in x.names f) t ≡ counts f s
 counts_so x f s t i st =
     ap (λ a. and_then (and_then a (number_at f.at)) (λ a. and_then (and_then (evaluated (counter_in x.names f).to None t) (number_at f.at)) (λ b. went [] (values_between f.down a b)))) (value_so x s t st.agrees f.from i.0 None)
     ∙ ap (λ b. and_then (and_then (evaluated f.from None s) (number_at f.at)) (λ a. and_then (and_then b (number_at f.at)) (λ b. went [] (values_between f.down a b)))) (value_so x s t st.agrees f.to i.1 None)
 
-begins_so : (x : ScopeCopy) (c : ℕ) (f : Counter) (n : ℤ) (s t : State) → IsCounter x.scope f → IsBelow x c → Stands x s t → Stands x (begins f n s) (begins (counter_in x.names f) n t) × Within x c t (begins (counter_in x.names f) n t)
+pub begins_so : (x : ScopeCopy) (c : ℕ) (f : Counter) (n : ℤ) (s t : State) → IsCounter x.scope f → IsBelow x c → Stands x s t → Stands x (begins f n s) (begins (counter_in x.names f) n t) × Within x c t (begins (counter_in x.names f) n t)
 begins_so x c f n s t i b st =
     let r = ref_of f.counter in
     subst (λ (p : Ref). Stands x (begins f n s) (with_value t (key_of p) (Some (integer n))) × Within x c t (with_value t (key_of p) (Some (integer n)))) (sym (ref_so x.names f.counter))
     (put_so x c b s t (key_of r) (Some (integer n)) st (a_scalar r i.2) (λ u e. (let v : integer n ≡ u = cc in ap sort_of (sym v) ∙ sym i.3)))
 
-restores_so : (x : ScopeCopy) (c : ℕ) (f : Counter) (s t s1 t1 : State) → IsCounter x.scope f → IsBelow x c → Stands x s t → Stands x s1 t1 → Stands x (restores f s s1) (restores (counter_in x.names f) t t1) × Within x c t1 (restores (counter_in x.names f) t t1)
+pub restores_so : (x : ScopeCopy) (c : ℕ) (f : Counter) (s t s1 t1 : State) → IsCounter x.scope f → IsBelow x c → Stands x s t → Stands x s1 t1 → Stands x (restores f s s1) (restores (counter_in x.names f) t t1) × Within x c t1 (restores (counter_in x.names f) t t1)
 restores_so x c f s t s1 t1 i b st st1 =
     let r = ref_of f.counter in
     let k = key_of r in
@@ -55,9 +55,15 @@ restores_so x c f s t s1 t1 i b st st1 =
     (subst (λ v. Stands x (restores f s s1) (with_value t1 (key_in x.names k) v) × Within x c t1 (with_value t1 (key_in x.names k) v)) (sym old)
     (put_so x c b s1 t1 k (s.store k) st1 (a_scalar r i.2) (λ u e. st.sorted k u e)))
 
--- what inlining keeps
-pub keeps : (scopes : Fun → Scope) → Keeps source (inline scopes)
-keeps scopes = record {
+pub less_so : (x : ScopeCopy) (c d : ℕ) (t t1 : State) → c ≤ d → Within x d t t1 → Within x c t t1
+less_so x c d t t1 le w k lt out = w k (omega (arith, le, lt)) out
+
+pub more_so : (x : ScopeCopy) (c d : ℕ) → c ≤ d → IsBelow x c → IsBelow x d
+more_so x c d le b = record { scope = b.scope; below = λ k h. omega (arith, b.below k h, le); apart = b.apart }
+
+-- what inlining keeps, with its parts in sight
+abbrev pub kept : (scopes : Fun → Scope) → Keeps source (inline scopes)
+kept scopes = record {
   OpIn = λ x. IsOperation x.scope;
   TestIn = λ x. IsTest x.scope;
   CounterIn = λ x. IsCounter x.scope;
@@ -67,8 +73,8 @@ keeps scopes = record {
   Below = IsBelow;
   within_none = λ x c t k lt out. refl;
   within_both = λ x c t t1 t2 a b k lt out. b k lt out ∙ a k lt out;
-  within_less = λ x c d t t1 le w k lt out. w k (omega (arith, le, lt)) out;
-  below_more = λ x c d le b. record { scope = b.scope; below = λ k h. omega (arith, b.below k h, le); apart = b.apart };
+  within_less = less_so;
+  below_more = more_so;
   op_same = operation_so;
   settled_same = λ x c p s t i b st. (st, λ k lt out. refl);
   test_same = λ x p s t i st. bool_so x s t st.agrees p.at p.cond i;
@@ -82,6 +88,10 @@ keeps scopes = record {
   left = λ x c q s t s2 t2 s3 ns i b st w stg e. leave.left scopes x c q b i s t s2 t2 st w stg s3 ns e;
   left_not = λ x c q s t s2 t2 w i b st between stg e. leave.left_not scopes x c q b i s t s2 t2 st between stg w e;
 }
+
+-- the same, closed
+pub keeps : (scopes : Fun → Scope) → Keeps source (inline scopes)
+keeps scopes = kept scopes
 
 -- what is known of a body is known of each copy of it
 pub copy_of_body : (scopes : Fun → Scope) (t : Block) (x : ScopeCopy) → IsBody scopes x.scope t →

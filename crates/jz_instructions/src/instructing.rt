@@ -20,11 +20,11 @@ use crate::products::{division_row, times_row};
 use crate::shaping::{none_two, one_one, one_three, one_two, two_three, two_two};
 use crate::testing::byte_row;
 use crate::unary::{one_row, swap_row};
-use jz_intrinsic_sizes::intrinsic_size;
 use jz_meaning::left_span;
 use jz_operands::Homes;
 use jz_pinned_rows::{Acts, PinnedRow, can_encode_all, product_row};
 use jz_rows::Target;
+use jz_run_instruct::intrinsic_size;
 use jz_tree::{Expr, Instance, Intrinsic, Lval, Seq, Size, Span, Text, spelled};
 use x64_insn::{Alu, One, Shift};
 

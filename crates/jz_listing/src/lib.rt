@@ -8,4 +8,4 @@ mod transformers;
 
 pub use compiled::{Arg, Compiled, Pre};
 pub use laws::listings_tell_functions_apart;
-pub use lines::listing;
+pub use lines::{listing, write_ct};

@@ -67,7 +67,8 @@ fn write_args(text: &mut Vec<u8>, args: &Seq<Arg>) -> Result<(), AllocError>
     Ok(())
 }
 
-fn write_ct(text: &mut Vec<u8>, ct: &Ct) -> Result<(), AllocError>
+/// What a listing says of constant time, without the line's first word and its line feed.
+pub fn write_ct(text: &mut Vec<u8>, ct: &Ct) -> Result<(), AllocError>
     ensures { OnOk result (text.new.items ≡ text.old.items ++ ct_text ct.now) }
 {
     match ct {

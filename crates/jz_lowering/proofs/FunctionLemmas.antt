@@ -18,7 +18,7 @@ use Rattle.jz_every_row.specs.Bodies.{IsLowered}
 use Rattle.jz_every_row.proofs.Bodies.{bodies_carry, bodies_have_cases}
 use Rattle.jz_lowered.specs.Functions.{ArePassed, AreKinds}
 use Rattle.jz_lowered.proofs.Coded.{functions_ready}
-use Rattle.jz_short.specs.Lengths.{statements_in}
+use Rattle.jz_meaning.specs.Lengths.{statements_in}
 use Rattle.jz_short.proofs.Thrice.{thrice}
 use Rattle.jz_operands.specs.TableHomes.{homes_by, homes_of}
 use Rattle.jz_homing.specs.declared.homing.Homing.{Homing}

@@ -24,7 +24,7 @@ use Rattle.jz_codable.specs.Ready.{IsReady, IsShort}
 use Rattle.jz_homes.specs.Homes.{Homes}
 use Rattle.jz_every_row.specs.Bodies.{beside, HasNeedsMet}
 use Rattle.jz_lowered.specs.Functions.{ArePassed, IsLoweredFun}
-use Rattle.jz_short.specs.Lengths.{statements_in}
+use Rattle.jz_meaning.specs.Lengths.{statements_in}
 use Rattle.jz_operands.specs.TableHomes.{homes_by}
 use Rattle.jz_homing.specs.Tables.{Table, no_homes, with_vars, frame_of}
 use Rattle.jz_homing.specs.Refusals.{IsHomeless}

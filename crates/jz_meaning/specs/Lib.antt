@@ -5,6 +5,7 @@ pub mod CallLaws
 pub mod CutLaws
 pub mod InnerEvaluating
 pub mod Intrinsics
+pub mod Lengths
 pub mod Operators
 pub mod Runs
 pub mod Shapes

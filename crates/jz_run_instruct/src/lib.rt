@@ -11,3 +11,4 @@ mod sizes;
 mod words;
 
 pub use instructing::instruct;
+pub use sizes::intrinsic_size;

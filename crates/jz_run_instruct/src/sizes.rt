@@ -23,7 +23,7 @@ fn first_size(operands: &[Expr]) -> Option<Size>
 
 /// The size that the name says, or that of the left sides, or that of the first operand that has
 /// one.
-pub(crate) fn intrinsic_size(instance: Instance, to: &Seq<Lval>, operands: &[Expr]) -> Option<Size>
+pub fn intrinsic_size(instance: Instance, to: &Seq<Lval>, operands: &[Expr]) -> Option<Size>
     ensures { result ≡ intrinsics.intrinsic_size instance.name instance.size to.now operands.now }
 {
     match instance.name {

@@ -38,7 +38,7 @@ use Rattle.jz_flag_rows.specs.Instructions.{count_code, HasInstruction, two_oper
 use Rattle.jz_flag_rows.specs.Rows.{LowersFlags, carry_results, wide_products, quotients, choices, instructions, sets as sets_byte}
 use Rattle.jz_every_row.specs.Statements.{Makes, by_row, by_flags}
 use Rattle.jz_every_row.specs.Bodies.{lowering, without_marks, IsLowered}
-use Rattle.jz_short.specs.Lengths.{statements_in}
+use Rattle.jz_meaning.specs.Lengths.{statements_in}
 
 -- ---- rows
 unfoldable Two : List Action → Type 0

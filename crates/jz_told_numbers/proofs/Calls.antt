@@ -33,7 +33,7 @@ use Rattle.jz_inline.proofs.Leaving.{left_numbers, left}
 use Rattle.jz_inline.proofs.Widths.{same_width}
 use Rattle.jz_inline.proofs.Writing.{Ends, written_so}
 use Rattle.jz_two_runs.specs.Telling.{HaveSame, AreCallsTold}
-use Rattle.jz_told_numbers.proofs.Kept.{kept}
+use Rattle.jz_inline.proofs.Keeping.{kept}
 
 -- the numbers of an item, where they stand
 item_so : (i w : ℕ) (all pre ns rest : List ℕ) → i ≡ length pre → length ns ≡ w → all ≡ pre ++ (ns ++ rest) → numbers_in (These (from i w)) all ≡ ns

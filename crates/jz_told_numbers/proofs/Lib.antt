@@ -4,6 +4,5 @@ pub mod Assignments
 pub mod Instructions
 pub mod Arrays
 pub mod Rounds
-pub mod Kept
 pub mod Calls
 pub mod Told

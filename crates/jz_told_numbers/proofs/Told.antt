@@ -20,7 +20,7 @@ use Rattle.jz_two_runs.proofs.Copied.{copied_together}
 use Rattle.jz_told_numbers.specs.ToldLaws.{ScalarsTell, RoundsTell}
 use Rattle.jz_told_numbers.proofs.Arrays.{arrays_told}
 use Rattle.jz_told_numbers.proofs.Rounds.{rounds_told}
-use Rattle.jz_told_numbers.proofs.Kept.{kept}
+use Rattle.jz_inline.proofs.Keeping.{kept}
 use Rattle.jz_told_numbers.proofs.Calls.{calls_told}
 
 pub scalars_tell : ScalarsTell
