@@ -7,12 +7,12 @@ use Rattle.jz_change.specs.declared.change.Change.{Change}
 use Rattle.jz_change.specs.declared.change.Step.{Step}
 use Rattle.jz_change.specs.declared.change.Step.TheVariants as step
 use Rattle.jz_change.specs.declared.change.Step.TheOpen.{Step-F}
-use Rattle.jz_change.specs.declared.change.Step.TheViews.{out-Step, roll-Step, roll-out-Step}
+use Rattle.jz_change.specs.declared.change.Step.TheViews.{out-Step, roll-Step, out-roll-Step, roll-out-Step}
 use Rattle.jz_change.specs.declared.change.Step.TheFolds.{fold-roll-Step}
 use Rattle.jz_change.specs.Changes as model
 use Rattle.jz_change.specs.Composing.{numbers_by, all_by, behind, first_ops, JoinedChange, JoinedRounds, add_step, join_if, join_while, join_every, join_for, join_first, join, join_rounds}
 use Rattle.jz_change.specs.Views.{changes_before, layer_change, steps_change, then_step, change_of, steps_of, changes_of}
-use Rattle.jz_change.specs.InnerSteps.{GivesStep, steps_and, steps_before, rounds_before}
+use Rattle.jz_change.specs.InnerSteps.{GivesStep, joined_if, GivesIf, steps_and, steps_before, rounds_before}
 use Rattle.jz_change.proofs.StepViews.{then_ops, then_if, then_arm, then_while, then_once, then_for, then_unrolled, then_opened, change_is, steps_append, changes_append, steps_at, begun}
 
 abbrev pair : model.Change → model.Change → JoinedChange
@@ -84,19 +84,22 @@ if_by before test x y b items b1 c b2 e f g h r =
     ∙ ap (λ o. pair o (join r (behind b1)).rest) (sym (g (join r (behind b1)).change))
     ∙ ap (λ o. add_step (then_step c) (join r o)) (sym h)
 
-pub if_if_joins : (before : List Numbers) (test : Numbers) (x y : Change) (b : model.Change) (items : List Numbers) (b1 : model.Change) (second : Step) (before2 : List Numbers) (test2 : Numbers) (x2 y2 : Change) (b3 : model.Change)
-    (items2 : List Numbers) (n : Numbers) (t e : Change) (b2 : model.Change) → items ≡ (first_ops before b).items → (first_ops before b).rest ≡ b1 → b1 ≡ then_step second b3 → second ≡ step.If before2 test2 x2 y2
-    → items2 ≡ items ++ all_by test before2 → n ≡ numbers_by test test2 → change_of t ≡ (join (change_of x) (steps_of x2.steps)).change → change_of e ≡ (join (change_of y) (steps_of y2.steps)).change → b2 ≡ behind b1
-    → GivesStep (step.If before test x y) b (step.If items2 n t e) b2
-if_if_joins before test x y b items b1 second before2 test2 x2 y2 b3 items2 n t e b2 h1 h2 h3 h4 h5 h6 h7 h8 h9 =
-    if_by before test x y b items b1 (step.If items2 n t e) b2 h1 h2
-    (λ r. then_if items2 n t e r
+-- its layer
+if_layer : (s : Step) (before : List Numbers) (test : Numbers) (x y : Change) → s ≡ step.If before test x y → out-Step s ≡ Step-F.If before test x y
+if_layer s before test x y e = ap out-Step (e ∙ sym (step.rolls-If before test x y)) ∙ out-roll-Step (Step-F.If before test x y)
+
+-- both keep it
+pub if_if_given : (s second : Step) (before : List Numbers) (test : Numbers) (x y : Change) (items before2 : List Numbers) (test2 : Numbers) (x2 y2 : Change) (items2 : List Numbers) (n : Numbers) (t e : Change) (xs ys : List Step)
+    → s ≡ step.If before test x y → second ≡ step.If before2 test2 x2 y2 → items2 ≡ items ++ all_by test before2 → n ≡ numbers_by test test2
+    → xs ≡ x2.steps → change_of t ≡ (join (change_of x) (steps_of xs)).change → ys ≡ y2.steps → change_of e ≡ (join (change_of y) (steps_of ys)).change → GivesIf s items second (step.If items2 n t e)
+if_if_given s second before test x y items before2 test2 x2 y2 items2 n t e xs ys k k2 h5 h6 i h7 j h8 = λ b3 r.
+    then_if items2 n t e r
     ∙ ap (λ o. model.stays_if o n (change_of t) (change_of e) r) h5
     ∙ ap (λ o. model.stays_if (items ++ all_by test before2) o (change_of t) (change_of e) r) h6
-    ∙ ap (λ o. model.stays_if (items ++ all_by test before2) (numbers_by test test2) o (change_of e) r) (h7 ∙ ap (λ o. (join (change_of x) o).change) (sym (change_is x2)))
-    ∙ ap (λ o. model.stays_if (items ++ all_by test before2) (numbers_by test test2) (join (change_of x) (change_of x2)).change o r) (h8 ∙ ap (λ o. (join (change_of y) o).change) (sym (change_is y2)))
-    ∙ ap (λ o. join_if items test (join (change_of x)) (join (change_of y)) o r) (sym (h3 ∙ ap (λ s. then_step s b3) h4 ∙ then_if before2 test2 x2 y2 b3)))
-    h9
+    ∙ ap (λ o. model.stays_if (items ++ all_by test before2) (numbers_by test test2) o (change_of e) r) (h7 ∙ ap (λ o. (join (change_of x) o).change) (ap steps_of i ∙ sym (change_is x2)))
+    ∙ ap (λ o. model.stays_if (items ++ all_by test before2) (numbers_by test test2) (join (change_of x) (change_of x2)).change o r) (h8 ∙ ap (λ o. (join (change_of y) o).change) (ap steps_of j ∙ sym (change_is y2)))
+    ∙ ap (λ o. join_if items test (join (change_of x)) (join (change_of y)) o r) (sym (ap (λ v. then_step v b3) k2 ∙ then_if before2 test2 x2 y2 b3))
+    ∙ ap (λ l. joined_if l items (then_step second b3) r) (sym (if_layer s before test x y k))
 
 pub if_arm_joins : (before : List Numbers) (test : Numbers) (x y : Change) (b : model.Change) (items : List Numbers) (b1 : model.Change) (second : Step) (z : Bool) (before2 : List Numbers) (p2 : Change) (b3 : model.Change)
     (items2 : List Numbers) (t : Change) (b2 : model.Change) → items ≡ (first_ops before b).items → (first_ops before b).rest ≡ b1 → b1 ≡ then_step second b3 → second ≡ step.Arm z before2 p2
@@ -263,6 +266,19 @@ joins_at s t b c b2 e g r = ap (λ x. join (then_step x r) b) e ∙ g r
 
 -- ---- steps and the first step of the other change, at places in a list
 
+pub if_given_at : (s : Step) (before : List Numbers) (test : Numbers) (x y : Change) (steps : List Step) (at to next : ℕ) (items old : List Numbers) (second c : Step)
+    → s ≡ step.If before test x y → items ≡ old ++ (first_ops before (steps_of (drop at steps))).items → old ≡ [] → (first_ops before (steps_of (drop at steps))).rest ≡ steps_of (drop to steps)
+    → to < length steps → second ≡ slice_index_or steps to second → GivesIf s items second c → steps_of (drop next steps) ≡ behind (steps_of (drop to steps))
+    → GivesStep s (steps_of (drop at steps)) c (steps_of (drop next steps))
+if_given_at s before test x y steps at to next items old second c e f g h lt is k o =
+    let b = steps_of (drop at steps) in let b2 = steps_of (drop next steps) in let b3 = steps_of (drop (to + 1) steps) in
+    joins_at s (step.If before test x y) b c b2 e
+    (if_by before test x y b items (steps_of (drop to steps)) c b2 (begun items old (first_ops before b).items f g) h
+    (λ r. k b3 r
+    ∙ ap (λ l. joined_if l items (then_step second b3) r) (if_layer s before test x y e)
+    ∙ ap (λ v. join_if items test (join (change_of x)) (join (change_of y)) v r) (sym (steps_at steps to second lt is)))
+    o)
+
 pub if_arm_at : (s : Step) (before : List Numbers) (test : Numbers) (x y : Change) (steps : List Step) (at to next : ℕ) (items old items2 : List Numbers) (second : Step) (z : Bool) (before2 : List Numbers) (p2 t : Change) (c : Step)
     → s ≡ step.If before test x y → items ≡ old ++ (first_ops before (steps_of (drop at steps))).items → old ≡ [] → (first_ops before (steps_of (drop at steps))).rest ≡ steps_of (drop to steps)
     → to < length steps → second ≡ slice_index_or steps to second → second ≡ step.Arm z before2 p2 → items2 ≡ items ++ all_by test before2
@@ -300,25 +316,27 @@ if_other_at s before test x y steps at to next items old second c e f g h lt is 
     (if_other_joins before test x y b items (steps_of (drop to steps)) second (steps_of (drop (to + 1) steps)) c b2 (begun items old (first_ops before b).items f g) h (steps_at steps to second lt is) k l o)
 
 pub while_while_at : (s : Step) (p : Change) (before : List Numbers) (test : Numbers) (y : Change) (steps : List Step) (at next : ℕ) (second : Step) (p2 : Change) (before2 : List Numbers) (test2 : Numbers) (y2 : Change)
-    (inner ss : List Step) (behind_it : ℕ) (items2 : List Numbers) (n : Numbers) (t : Change) (more : List Step) → s ≡ step.While p before test y → at < length steps → second ≡ slice_index_or steps at second → second ≡ step.While p2 before2 test2 y2
+    (inner ss : List Step) (behind_it : ℕ) (items2 : List Numbers) (n : Numbers) (t : Change) (more : List Step) (c : Step) → s ≡ step.While p before test y → at < length steps → second ≡ slice_index_or steps at second → second ≡ step.While p2 before2 test2 y2
     → inner ≡ p2.steps → join (change_of p) (steps_of inner) ≡ steps_and ss (steps_of (drop behind_it inner)) → items2 ≡ (first_ops before (steps_of (drop behind_it inner))).items ++ all_by test before2 → n ≡ numbers_by test test2
-    → more ≡ y2.steps → change_of t ≡ (join (change_of y) (steps_of more)).change → steps_of (drop next steps) ≡ behind (steps_of (drop at steps))
-    → GivesStep s (steps_of (drop at steps)) (step.While (of_steps ss) items2 n t) (steps_of (drop next steps))
-while_while_at s p before test y steps at next second p2 before2 test2 y2 inner ss behind_it items2 n t more e lt is k i g h j q m o =
-    let b = steps_of (drop at steps) in let b2 = steps_of (drop next steps) in let c = step.While (of_steps ss) items2 n t in
+    → more ≡ y2.steps → change_of t ≡ (join (change_of y) (steps_of more)).change → c ≡ step.While (of_steps ss) items2 n t → steps_of (drop next steps) ≡ behind (steps_of (drop at steps))
+    → GivesStep s (steps_of (drop at steps)) c (steps_of (drop next steps))
+while_while_at s p before test y steps at next second p2 before2 test2 y2 inner ss behind_it items2 n t more c e lt is k i g h j q m w o =
+    let b = steps_of (drop at steps) in let b2 = steps_of (drop next steps) in
     joins_at s (step.While p before test y) b c b2 e
+    (subst (λ v. GivesStep (step.While p before test y) b v b2) (sym w)
     (while_while_joins p before test y b second p2 before2 test2 y2 (steps_of (drop (at + 1) steps)) ss (steps_of (drop behind_it inner)) items2 n t b2 (steps_at steps at second lt is) k
-    (ap (λ v. join (change_of p) (steps_of v)) (sym i) ∙ g) h j (m ∙ ap (λ v. (join (change_of y) (steps_of v)).change) q) o)
+    (ap (λ v. join (change_of p) (steps_of v)) (sym i) ∙ g) h j (m ∙ ap (λ v. (join (change_of y) (steps_of v)).change) q) o))
 
 pub while_once_at : (s : Step) (p : Change) (before : List Numbers) (test : Numbers) (y : Change) (steps : List Step) (at next : ℕ) (second : Step) (p2 : Change) (before2 : List Numbers)
-    (inner ss : List Step) (behind_it : ℕ) (items2 : List Numbers) → s ≡ step.While p before test y → at < length steps → second ≡ slice_index_or steps at second → second ≡ step.Once p2 before2
+    (inner ss : List Step) (behind_it : ℕ) (items2 : List Numbers) (c : Step) → s ≡ step.While p before test y → at < length steps → second ≡ slice_index_or steps at second → second ≡ step.Once p2 before2
     → inner ≡ p2.steps → join (change_of p) (steps_of inner) ≡ steps_and ss (steps_of (drop behind_it inner)) → items2 ≡ (first_ops before (steps_of (drop behind_it inner))).items ++ all_by test before2
-    → steps_of (drop next steps) ≡ behind (steps_of (drop at steps))
-    → GivesStep s (steps_of (drop at steps)) (step.Once (of_steps ss) items2) (steps_of (drop next steps))
-while_once_at s p before test y steps at next second p2 before2 inner ss behind_it items2 e lt is k i g h o =
-    let b = steps_of (drop at steps) in let b2 = steps_of (drop next steps) in let c = step.Once (of_steps ss) items2 in
+    → c ≡ step.Once (of_steps ss) items2 → steps_of (drop next steps) ≡ behind (steps_of (drop at steps))
+    → GivesStep s (steps_of (drop at steps)) c (steps_of (drop next steps))
+while_once_at s p before test y steps at next second p2 before2 inner ss behind_it items2 c e lt is k i g h w o =
+    let b = steps_of (drop at steps) in let b2 = steps_of (drop next steps) in
     joins_at s (step.While p before test y) b c b2 e
-    (while_once_joins p before test y b second p2 before2 (steps_of (drop (at + 1) steps)) ss (steps_of (drop behind_it inner)) items2 b2 (steps_at steps at second lt is) k (ap (λ v. join (change_of p) (steps_of v)) (sym i) ∙ g) h o)
+    (subst (λ v. GivesStep (step.While p before test y) b v b2) (sym w)
+    (while_once_joins p before test y b second p2 before2 (steps_of (drop (at + 1) steps)) ss (steps_of (drop behind_it inner)) items2 b2 (steps_at steps at second lt is) k (ap (λ v. join (change_of p) (steps_of v)) (sym i) ∙ g) h o))
 
 pub while_other_at : (s : Step) (p : Change) (before : List Numbers) (test : Numbers) (y : Change) (steps : List Step) (at next : ℕ) (second c : Step) → s ≡ step.While p before test y
     → at < length steps → second ≡ slice_index_or steps at second → is_while (out-Step second) ≡ false → c ≡ step.Ops [] → steps_of (drop next steps) ≡ behind (steps_of (drop at steps)) → GivesStep s (steps_of (drop at steps)) c (steps_of (drop next steps))

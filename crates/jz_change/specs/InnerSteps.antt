@@ -1,13 +1,14 @@
 -- What loops over steps keep.
-use Rattle.std.specs.Prelude.{ℕ, ◌≡◌, Bool, true, false, List, ◌++◌, map, drop}
+use Rattle.std.specs.Prelude.{ℕ, ◌≡◌, Bool, true, false, List, [], ◌++◌, map, drop}
 use Rattle.jz_leak.specs.declared.transformer.Tr.{Tr}
 use Rattle.jz_leak.specs.declared.transformer.Case.{Case}
+use Rattle.jz_change.specs.declared.change.Numbers.{Numbers}
 use Rattle.jz_change.specs.declared.change.Change.{Change as CodeChange}
 use Rattle.jz_change.specs.declared.change.Step.{Step}
 use Rattle.jz_change.specs.declared.change.Step.TheOpen.{Step-F}
 use Rattle.jz_change.specs.declared.change.Step.TheViews.{out-Step}
-use Rattle.jz_change.specs.Changes.{Change}
-use Rattle.jz_change.specs.Composing.{JoinedChange, JoinedRounds, add_step, join}
+use Rattle.jz_change.specs.Changes.{Change, ops}
+use Rattle.jz_change.specs.Composing.{JoinedChange, JoinedRounds, add_step, join_if, join}
 use Rattle.jz_change.specs.Flattening.{FlatCases, FlatRounds, add_case, flat}
 use Rattle.jz_change.specs.Views.{chain, changes_before, then_step, change_of, steps_of}
 
@@ -49,6 +50,17 @@ trees_before ts f = record { trs = ts ++ f.trs; rest = f.rest }
 -- what a step makes of the first steps of another change, whatever follows
 abbrev pub GivesStep : Step → Change → Step → Change → Type 0
 GivesStep s b c b2 = (r : Change) → join (then_step s r) b ≡ add_step (then_step c) (join r b2)
+
+-- an `if` whose operations became these, by the steps behind them, before what follows
+abbrev pub joined_if : Step-F Step CodeChange → List Numbers → Change → Change → Change
+joined_if (Step-F.If before test then_part else_part) items b r =
+    join_if items test (join (change_of then_part)) (join (change_of else_part)) b r
+joined_if _ items b r = ops [] r
+
+-- what it makes of the first of those steps, whatever follows
+abbrev pub GivesIf : Step → List Numbers → Step → Step → Type 0
+GivesIf s items second c =
+    (b r : Change) → then_step c r ≡ joined_if (out-Step s) items (then_step second b) r
 
 abbrev pub steps_and : List Step → Change → JoinedChange
 steps_and ss b = record { change = steps_of ss; rest = b }

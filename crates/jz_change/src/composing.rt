@@ -4,7 +4,7 @@ ghost use Rattle.std.specs.Prelude.{◌≡◌, ◌++◌, [], IfOk, OnOk, drop};
 ghost use Rattle.jz_change.specs.declared.change.Step.{Step};
 ghost use Rattle.jz_change.specs.Composing.{all_by, head_ops, first_ops, behind, join, join_every, compose_of, Composes};
 ghost use Rattle.jz_change.specs.Views.{change_of, changes_of, steps_of};
-ghost use Rattle.jz_change.specs.InnerSteps.{KeepsIf, KeepsWhile, GivesStepAt, steps_and};
+ghost use Rattle.jz_change.specs.InnerSteps.{KeepsIf, KeepsWhile, GivesIf, GivesStepAt, steps_and};
 
 use crate::change::{Change, Numbers, Step};
 use crate::numbers::{numbers_by, push_all};
@@ -176,25 +176,9 @@ fn compose_if(alloc: Global, step: &Step, steps: &[Step], at: usize) -> Result<O
     match steps.get(to) {
         None => Ok(nothing(alloc, to_next)),
         Some(second) => match second {
-            Step::If {
-                before: more,
-                test: numbers,
-                then_part: then_steps,
-                else_part: else_steps,
-            } => {
-                push_all(alloc, &mut out, test, more)?;
-                let both = numbers_by(alloc, test, numbers)?;
-                let then_left = compose_change(alloc, then_part, then_steps.steps.as_slice())?;
-                let else_left = compose_change(alloc, else_part, else_steps.steps.as_slice())?;
-                Ok(One {
-                    step: Step::If {
-                        before: Seq::from_vec(out),
-                        test: both,
-                        then_part: then_left,
-                        else_part: else_left,
-                    },
-                    at: to_next,
-                })
+            Step::If { .. } => {
+                let both = compose_both(alloc, step, second, out, to_next)?;
+                Ok(both)
             }
             Step::Arm {
                 answer,
@@ -212,6 +196,54 @@ fn compose_if(alloc: Global, step: &Step, steps: &[Step], at: usize) -> Result<O
             }
             _ => Ok(nothing(alloc, to_next)),
         },
+    }
+}
+
+/// An `if` that both changes keep, where these are the operations of the first one.
+#[cycle(compose)]
+fn compose_both(
+    alloc: Global,
+    step: &Step,
+    second: &Step,
+    before: Vec<Numbers>,
+    at: usize,
+) -> Result<One, AllocError>
+    ensures step { IfOk result (λ o. KeepsIf step.now → KeepsIf second.now
+        → GivesIf step.now before.items second.now o.step) }
+    ensures at { IfOk result (λ o. o.at ≡ at) }
+{
+    let Step::If {
+        before: _,
+        test,
+        then_part,
+        else_part,
+    } = step
+    else {
+        return Ok(nothing(alloc, at));
+    };
+    let mut out = before;
+    match second {
+        Step::If {
+            before: more,
+            test: numbers,
+            then_part: then_steps,
+            else_part: else_steps,
+        } => {
+            push_all(alloc, &mut out, test, more)?;
+            let both = numbers_by(alloc, test, numbers)?;
+            let then_left = compose_change(alloc, then_part, then_steps.steps.as_slice())?;
+            let else_left = compose_change(alloc, else_part, else_steps.steps.as_slice())?;
+            Ok(One {
+                step: Step::If {
+                    before: Seq::from_vec(out),
+                    test: both,
+                    then_part: then_left,
+                    else_part: else_left,
+                },
+                at,
+            })
+        }
+        _ => Ok(nothing(alloc, at)),
     }
 }
 
@@ -282,49 +314,48 @@ fn compose_while(alloc: Global, step: &Step, steps: &[Step], at: usize) -> Resul
                 body: body_steps,
             } => {
                 let part = compose_steps(alloc, prologue, inner.steps.as_slice(), 0)?;
-                let out = behind_prologue(
-                    alloc,
-                    before,
-                    test,
-                    more,
-                    inner.steps.as_slice(),
-                    part.at,
-                )?;
+                let out = behind_prologue(alloc, before, test, more, inner, part.at)?;
                 let both = numbers_by(alloc, test, numbers)?;
                 let left = compose_change(alloc, body, body_steps.steps.as_slice())?;
-                Ok(One {
-                    step: Step::While {
-                        prologue: Change { steps: part.steps },
-                        before: out,
-                        test: both,
-                        body: left,
-                    },
-                    at: to_next,
-                })
+                Ok(while_of(Change { steps: part.steps }, out, both, left, to_next))
             }
             Step::Once {
                 prologue: inner,
                 before: more,
             } => {
                 let part = compose_steps(alloc, prologue, inner.steps.as_slice(), 0)?;
-                let out = behind_prologue(
-                    alloc,
-                    before,
-                    test,
-                    more,
-                    inner.steps.as_slice(),
-                    part.at,
-                )?;
-                Ok(One {
-                    step: Step::Once {
-                        prologue: Change { steps: part.steps },
-                        before: out,
-                    },
-                    at: to_next,
-                })
+                let out = behind_prologue(alloc, before, test, more, inner, part.at)?;
+                Ok(once_of(Change { steps: part.steps }, out, to_next))
             }
             _ => Ok(nothing(alloc, to_next)),
         },
+    }
+}
+
+/// The `while` that both changes keep.
+fn while_of(prologue: Change, before: Seq<Numbers>, test: Numbers, body: Change, at: usize) -> One
+    ensures step { result.step ≡ Step.While prologue before test body }
+    ensures at { result.at ≡ at }
+{
+    One {
+        step: Step::While {
+            prologue,
+            before,
+            test,
+            body,
+        },
+        at,
+    }
+}
+
+/// The prologue of a `while`, and the operations behind it.
+fn once_of(prologue: Change, before: Seq<Numbers>, at: usize) -> One
+    ensures step { result.step ≡ Step.Once prologue before }
+    ensures at { result.at ≡ at }
+{
+    One {
+        step: Step::Once { prologue, before },
+        at,
     }
 }
 
@@ -334,14 +365,15 @@ fn behind_prologue(
     before: &Seq<Numbers>,
     test: &Numbers,
     more: &Seq<Numbers>,
-    steps: &[Step],
+    inner: &Change,
     at: usize,
 ) -> Result<Seq<Numbers>, AllocError>
     ensures { IfOk result (λ out. out
-        ≡ (first_ops before.now (steps_of (drop at steps.now))).items ++ all_by test.now more.now) }
+        ≡ (first_ops before.now (steps_of (drop at inner.now.steps))).items
+        ++ all_by test.now more.now) }
 {
     let mut out = Vec::new(alloc);
-    let _behind = take(alloc, &mut out, before, steps, at)?;
+    let _behind = take(alloc, &mut out, before, inner.steps.as_slice(), at)?;
     push_all(alloc, &mut out, test, more)?;
     Ok(Seq::from_vec(out))
 }

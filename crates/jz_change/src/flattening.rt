@@ -283,19 +283,34 @@ fn flat_if(alloc: Global, step: &Step, cases: &[Case], at: usize) -> Result<One,
                 let else_shown = outs_by_numbers(alloc, test, else_outs)?;
                 let then_left = flat_tr(alloc, then_part, then_tr)?;
                 let else_left = flat_tr(alloc, else_part, else_tr)?;
-                Ok(One {
-                    case: Case::If {
-                        test: Seq::from_vec(outs),
-                        then_outs: then_shown,
-                        then_tr: then_left,
-                        else_outs: else_shown,
-                        else_tr: else_left,
-                    },
-                    at: to_next,
-                })
+                Ok(if_of(outs, then_shown, then_left, else_shown, else_left, to_next))
             }
             _ => Ok(nothing(alloc, to_next)),
         },
+    }
+}
+
+/// The case of an `if` that stays.
+fn if_of(
+    test: Vec<Out>,
+    then_outs: Seq<Out>,
+    then_tr: Tr,
+    else_outs: Seq<Out>,
+    else_tr: Tr,
+    at: usize,
+) -> One
+    ensures case { result.case ≡ Case.If test.items then_outs then_tr else_outs else_tr }
+    ensures at { result.at ≡ at }
+{
+    One {
+        case: Case::If {
+            test: Seq::from_vec(test),
+            then_outs,
+            then_tr,
+            else_outs,
+            else_tr,
+        },
+        at,
     }
 }
 
@@ -379,19 +394,35 @@ fn flat_while(alloc: Global, step: &Step, cases: &[Case], at: usize) -> Result<O
                 let more_shown = outs_by_numbers(alloc, test, more_outs)?;
                 let leave_shown = outs_by_numbers(alloc, test, leave_outs)?;
                 let left = flat_tr(alloc, body, body_tr)?;
-                Ok(One {
-                    case: Case::While {
-                        prologue: Tr { cases: part.cases },
-                        test: outs,
-                        more_outs: more_shown,
-                        body: left,
-                        leave_outs: leave_shown,
-                    },
-                    at: to_next,
-                })
+                let first = Tr { cases: part.cases };
+                Ok(while_of(first, outs, more_shown, left, leave_shown, to_next))
             }
             _ => Ok(nothing(alloc, to_next)),
         },
+    }
+}
+
+/// The case of a `while` that stays.
+fn while_of(
+    prologue: Tr,
+    test: Seq<Out>,
+    more_outs: Seq<Out>,
+    body: Tr,
+    leave_outs: Seq<Out>,
+    at: usize,
+) -> One
+    ensures case { result.case ≡ Case.While prologue test more_outs body leave_outs }
+    ensures at { result.at ≡ at }
+{
+    One {
+        case: Case::While {
+            prologue,
+            test,
+            more_outs,
+            body,
+            leave_outs,
+        },
+        at,
     }
 }
 

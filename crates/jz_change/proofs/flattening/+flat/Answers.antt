@@ -22,10 +22,11 @@ flat_if-returns-in_ok-else_left-in-If-case t c = λ kept.
     let p = c.in-If-case in
     let within : c.in_ok-to.to < length cs = search (c.in-Some.ensures.lookup, rules) in
     let is : c.in-Some.case.now ≡ slice_index_or cs c.in_ok-to.to c.in-Some.case.now = search (c.in-Some.ensures.lookup, rules) in
-    if_some c.args.step.now s.before s.test s.then_part s.else_part cs c.args.at c.in_ok-to.to c.next-to_next.result _ _ c.in-Some.case.now _ s.is c.in_ok-to.ensures.outs c.new-outs.ensures.items c.in_ok-to.ensures.rest within is
-    (if_made s.test s.then_part s.else_part c.in-Some.case.now p.test_outs p.then_outs p.then_tr p.else_outs p.else_tr _ _ _ _ _ _ p.is (c.from_vec.ensures ∙ c.in_ok-push_outs-in-If-case.ensures) c.in_ok-then_shown-in-If-case.ensures
+    if_some c.args.step.now s.before s.test s.then_part s.else_part cs c.args.at c.in_ok-to.to c.if_of.result.at _ _ c.in-Some.case.now _ s.is c.in_ok-to.ensures.outs c.new-outs.ensures.items c.in_ok-to.ensures.rest within is
+    (c.if_of.ensures.case
+    ∙ if_made s.test s.then_part s.else_part c.in-Some.case.now p.test_outs p.then_outs p.then_tr p.else_outs p.else_tr _ _ _ _ _ _ p.is c.in_ok-push_outs-in-If-case.ensures c.in_ok-then_shown-in-If-case.ensures
     c.in_ok-then_left-in-If-case.ensures c.in_ok-else_shown-in-If-case.ensures c.in_ok-else_left-in-If-case.ensures)
-    c.next-to_next.ensures
+    (ap (λ n. drop n cs) c.if_of.ensures.at ∙ c.next-to_next.ensures)
 
 pub flat_if-returns-in_default-case : goal.flat_if-returns-in_default-case
 flat_if-returns-in_default-case t c = λ kept.
@@ -45,11 +46,12 @@ flat_while-returns-in_ok-left-in-While-case t c = λ kept.
     let part = c.in_ok-part-in-While-case.part in
     let within : c.args.at < length cs = search (c.in-Some.ensures.lookup, rules) in
     let is : c.in-Some.case.now ≡ slice_index_or cs c.args.at c.in-Some.case.now = search (c.in-Some.ensures.lookup, rules) in
-    while_some c.args.step.now s.prologue s.before s.test s.body cs c.args.at c.next-to_next.result c.in-Some.case.now _ s.is within is
-    (while_made s.prologue s.before s.test s.body c.in-Some.case.now p.inner p.test_outs p.more_outs p.body_tr p.leave_outs part.cases (drop part.at p.inner.cases) _ _ _ _ p.is
+    while_some c.args.step.now s.prologue s.before s.test s.body cs c.args.at c.while_of.result.at c.in-Some.case.now _ s.is within is
+    (c.while_of.ensures.case
+    ∙ while_made s.prologue s.before s.test s.body c.in-Some.case.now p.inner p.test_outs p.more_outs p.body_tr p.leave_outs part.cases (drop part.at p.inner.cases) _ _ _ _ p.is
     (ap (flat (change_of s.prologue)) (sym c.as_slice.ensures) ∙ c.in_ok-part-in-While-case.ensures ∙ ap (λ b. record { cases = part.cases; rest = drop part.at b }) c.as_slice.ensures)
     c.in_ok-outs-in-While-case.ensures c.in_ok-more_shown-in-While-case.ensures c.in_ok-left-in-While-case.ensures c.in_ok-leave_shown-in-While-case.ensures)
-    c.next-to_next.ensures
+    (ap (λ n. drop n cs) c.while_of.ensures.at ∙ c.next-to_next.ensures)
 
 pub flat_while-returns-in_default-case : goal.flat_while-returns-in_default-case
 flat_while-returns-in_default-case t c = λ kept.
