@@ -40,62 +40,44 @@ fn step(of: &Step, out: &mut String) -> Result<(), AllocError> {
     match of {
         Step::Ops(items) => operations(items, out),
         Step::If {
-            before: _,
             test,
             then_part,
             else_part,
+            ..
         } => {
             out.push_str("if")?;
             item(test, out)?;
-            out.push_str("{")?;
-            steps(then_part, out)?;
-            out.push_str("}{")?;
-            steps(else_part, out)?;
-            out.push_str("}")
+            braced("", then_part, out)?;
+            braced("", else_part, out)
         }
         Step::While {
             prologue,
-            before: _,
             test,
             body,
+            ..
         } => {
-            out.push_str("while{")?;
-            steps(prologue, out)?;
-            out.push_str("}")?;
+            braced("while", prologue, out)?;
             item(test, out)?;
-            out.push_str("{")?;
-            steps(body, out)?;
-            out.push_str("}")
+            braced("", body, out)
         }
-        Step::For(body) => {
-            out.push_str("for{")?;
-            steps(body, out)?;
-            out.push_str("}")
+        Step::For(body) => braced("for", body, out),
+        Step::Arm { answer, part, .. } => {
+            write!(out, "{answer}")?;
+            braced("", part, out)
         }
-        Step::Arm {
-            answer,
-            before: _,
-            part,
-        } => {
-            write!(out, "{answer}{{")?;
-            steps(part, out)?;
-            out.push_str("}")
-        }
-        Step::Once {
-            prologue,
-            before: _,
-        } => {
-            out.push_str("once{")?;
-            steps(prologue, out)?;
-            out.push_str("}")
-        }
+        Step::Once { prologue, .. } => braced("once", prologue, out),
         Step::Unrolled(rounds) => all_rounds(rounds, out),
-        Step::Opened {
-            arguments: _,
-            body: _,
-            results: _,
-        } => out.push_str("call"),
+        Step::Opened { .. } => out.push_str("call"),
     }
+}
+
+/// The steps of a change in braces, behind a word.
+#[cycle(steps)]
+fn braced(word: &str, of: &Change, out: &mut String) -> Result<(), AllocError> {
+    out.push_str(word)?;
+    out.push_str("{")?;
+    steps(of, out)?;
+    out.push_str("}")
 }
 
 /// The steps of each round; of many rounds how many there are.

@@ -65,12 +65,7 @@ fn expression(expr: &Expr, out: &mut String) -> Result<(), AllocError> {
             out.push_str("!")?;
             expression(e.get(), out)
         }
-        Expr::Cast {
-            size: _,
-            signed: _,
-            e,
-            span: _,
-        } => {
+        Expr::Cast { e, .. } => {
             out.push_str("cast(")?;
             expression(e.get(), out)?;
             out.push_str(")")
@@ -171,8 +166,14 @@ fn rounds(counter: &Var, from: &Expr, to: &Expr, out: &mut String) -> Result<(),
     out.push_str(" = ")?;
     expression(from, out)?;
     out.push_str(" to ")?;
-    expression(to, out)?;
-    out.push_str(" {")
+    expression(to, out)
+}
+
+/// The mark of variables.
+fn marked(vars: &Seq<Var>, out: &mut String) -> Result<(), AllocError> {
+    out.push_str("mark(")?;
+    variables(vars, out)?;
+    out.push_str(")")
 }
 
 #[cycle(statements)]
@@ -182,47 +183,43 @@ fn statement(stmt: &Stmt, out: &mut String) -> Result<(), AllocError> {
         StmtKind::If(cond, holds, other) => {
             out.push_str("if ")?;
             expression(cond, out)?;
-            out.push_str(" {")?;
-            statements(holds, out)?;
-            out.push_str("} {")?;
-            statements(other, out)?;
-            out.push_str("}")
+            braced(holds, out)?;
+            braced(other, out)
         }
         StmtKind::While {
             prologue,
             cond,
             body,
         } => {
-            out.push_str("while {")?;
-            statements(prologue, out)?;
-            out.push_str("} ")?;
+            out.push_str("while")?;
+            braced(prologue, out)?;
+            out.push_str(" ")?;
             expression(cond, out)?;
             match body {
                 None => out.push_str(" -"),
-                Some(body) => {
-                    out.push_str(" {")?;
-                    statements(body, out)?;
-                    out.push_str("}")
-                }
+                Some(body) => braced(body, out),
             }
         }
         StmtKind::For {
             counter,
             from,
-            down: _,
             to,
             body,
+            ..
         } => {
             rounds(counter, from, to, out)?;
-            statements(body, out)?;
-            out.push_str("}")
+            braced(body, out)
         }
-        StmtKind::Mark(vars) => {
-            out.push_str("mark(")?;
-            variables(vars, out)?;
-            out.push_str(")")
-        }
+        StmtKind::Mark(vars) => marked(vars, out),
     }
+}
+
+/// Statements in braces, behind a blank.
+#[cycle(statements)]
+fn braced(stmts: &Seq<Stmt>, out: &mut String) -> Result<(), AllocError> {
+    out.push_str(" {")?;
+    statements(stmts, out)?;
+    out.push_str("}")
 }
 
 /// Statements, each with `;` behind it; of many how many there are.
