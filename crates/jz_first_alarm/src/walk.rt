@@ -83,9 +83,8 @@ fn ask_statement<'a>(
             cond,
             body,
         } => {
-            let span = stmt.span;
             let parts = Loop {
-                span,
+                span: stmt.span,
                 prologue,
                 cond,
                 body,
@@ -93,13 +92,7 @@ fn ask_statement<'a>(
             let next = ask_while(known, set, at, parts)?;
             Ok(next)
         }
-        StmtKind::For {
-            counter: _,
-            from: _,
-            down: _,
-            to: _,
-            body: _,
-        } => unreachable!(),
+        StmtKind::For { .. } => unreachable!(),
         StmtKind::Mark(vars) => {
             after_mark(set, vars)?;
             Ok(at)
