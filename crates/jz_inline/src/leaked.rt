@@ -62,6 +62,13 @@ fn operation(op: BinOp, left: Counted, right: Counted) -> Counted
     }
 }
 
+/// An expression that leaks no number.
+fn silent(whole: bool) -> Counted
+    ensures { result ≡ record { whole = whole; count = 0 } }
+{
+    Counted { whole, count: 0 }
+}
+
 pub fn is_int(var: &Var) -> bool
     ensures { result ≡ is_whole (sort_of_kind (ref_of var.now).kind) }
 {
@@ -132,18 +139,9 @@ fn count_single(alloc: Global, expr: &Expr) -> Result<Counted, AllocError>
     ensures { IfOk result (λ c. c ≡ counted_of (declared_shape expr.now)) }
 {
     match expr {
-        Expr::Num(_, _) => Ok(Counted {
-            whole: true,
-            count: 0,
-        }),
-        Expr::Bool(_, _) => Ok(Counted {
-            whole: false,
-            count: 0,
-        }),
-        Expr::Var(var) => Ok(Counted {
-            whole: is_int(var),
-            count: 0,
-        }),
+        Expr::Num(_, _) => Ok(silent(true)),
+        Expr::Bool(_, _) => Ok(silent(false)),
+        Expr::Var(var) => Ok(silent(is_int(var))),
         Expr::Cell(var, at) => {
             let cell = accessed(alloc, is_int(var), at.get())?;
             Ok(cell)
@@ -160,12 +158,7 @@ fn count_single(alloc: Global, expr: &Expr) -> Result<Counted, AllocError>
             let inner = count_numbers(alloc, e.get())?;
             Ok(inner)
         }
-        Expr::Cast {
-            size: _,
-            signed: _,
-            e,
-            span: _,
-        } => {
+        Expr::Cast { e, .. } => {
             let inner = count_numbers(alloc, e.get())?;
             Ok(Counted {
                 whole: false,

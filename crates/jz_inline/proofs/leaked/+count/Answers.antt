@@ -26,14 +26,14 @@ count_side-loop-rest-preserved t c =
     )
 
 pub count_single-returns-in-Num : goal.count_single-returns-in-Num
-count_single-returns-in-Num t c = sym (ap told c.in-Num.is ∙ of_num _ _)
+count_single-returns-in-Num t c = c.silent.ensures ∙ sym (ap told c.in-Num.is ∙ of_num _ _)
 
 pub count_single-returns-in-Bool : goal.count_single-returns-in-Bool
-count_single-returns-in-Bool t c = sym (ap told c.in-Bool.is ∙ of_bool _ _)
+count_single-returns-in-Bool t c = c.silent-in-Bool.ensures ∙ sym (ap told c.in-Bool.is ∙ of_bool _ _)
 
 pub count_single-returns-in-Var : goal.count_single-returns-in-Var
 count_single-returns-in-Var t c =
-    ap (λ w. count_as w 0) c.is_int.ensures ∙ sym (ap told c.in-Var.is ∙ of_var c.in-Var.var)
+    c.silent-in-Var.ensures ∙ ap (λ w. count_as w 0) c.is_int.ensures ∙ sym (ap told c.in-Var.is ∙ of_var c.in-Var.var)
 
 pub count_single-returns-in_ok-cell-in-Cell : goal.count_single-returns-in_ok-cell-in-Cell
 count_single-returns-in_ok-cell-in-Cell t c =
