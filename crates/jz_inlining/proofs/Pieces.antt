@@ -18,7 +18,12 @@ use Rattle.jz_copies.specs.Called.{called_function}
 use Rattle.jz_inline.specs.Names.{var_in, expr_in}
 use Rattle.jz_inline.specs.Statements.{Piece, CopiedFun, CopiedFuns, plain_assignment, copied_piece, call_piece, assign_piece, if_piece, for_piece, kind_made, statement_piece, body_piece, with_piece, copied_funs}
 use Rattle.jz_inlining.specs.declared.parts.Assignment.{Assignment}
-use Rattle.jz_inlining.specs.InnerCopies.{mark_piece, while_by, assignment_piece, plain_of}
+use Rattle.jz_inlining.specs.declared.parts.Test.{Test}
+use Rattle.jz_inlining.specs.declared.parts.Counter.{Counter}
+use Rattle.jz_inlining.specs.InnerCopies.{mark_piece, while_by, assignment_piece, plain_of, if_of, while_of, for_of}
+
+abbrev for_with : List Note → Span → Var → Expr → Bool → Expr → Piece → Piece
+for_with notes at i from down to b = for_piece notes at (λ names ss. kind.For (var_in names i) (expr_in names from) down (expr_in names to) ss) b
 
 module _ (funs : CopiedFuns) where
   kind_piece : StmtKind → List Note → Span → Piece
@@ -61,6 +66,45 @@ module _ (funs : CopiedFuns) where
   while_is s p c (Some b) e =
       statement_is s ∙ ap (λ x. kind_piece x s.notes s.span) e ∙ ap (λ x. kind_piece x s.notes s.span) (sym (kind.rolls-While p c (Some b)))
       ∙ ap (λ f. f s.notes s.span) (fold-roll-StmtKind _ _ (kind_made funs) (λ s. s.kind s.notes s.span) (StmtKind-F.While p c (Some b)))
+
+  -- ---- by the parts that go together
+
+  pub assignment_is : (s : Stmt) (a : Assignment) (to : List Lval) (o : Option BinOp) (r : Rhs) (c : Option Expr) → s.kind ≡ kind.Assign to o r c
+      → a.notes.now ≡ s.notes → a.span ≡ s.span → a.to.now ≡ to → a.op ≡ o → a.cond.now ≡ c → statement_piece funs s ≡ assignment_piece funs a r
+  assignment_is s a to o r c e n at d p q =
+      assign_is s to o r c e
+      ∙ sym (ap (λ x. assign_piece funs x a.span a.to.now a.op r a.cond.now) n
+      ∙ ap (λ x. assign_piece funs s.notes x a.to.now a.op r a.cond.now) at
+      ∙ ap (λ x. assign_piece funs s.notes s.span x a.op r a.cond.now) d
+      ∙ ap (λ x. assign_piece funs s.notes s.span to x r a.cond.now) p
+      ∙ ap (λ x. assign_piece funs s.notes s.span to o r x) q)
+
+  pub branch_is : (s : Stmt) (t : Test) (c : Expr) (a b : List Stmt) → s.kind ≡ kind.If c a b
+      → t.notes.now ≡ s.notes → t.span ≡ s.span → t.cond.now ≡ c → statement_piece funs s ≡ if_of t (body_piece funs a) (body_piece funs b)
+  branch_is s t c a b e n at q =
+      if_is s c a b e
+      ∙ sym (ap (λ x. if_piece x t.span t.cond.now (body_piece funs a) (body_piece funs b)) n
+      ∙ ap (λ x. if_piece s.notes x t.cond.now (body_piece funs a) (body_piece funs b)) at
+      ∙ ap (λ x. if_piece s.notes s.span x (body_piece funs a) (body_piece funs b)) q)
+
+  pub loop_is : (s : Stmt) (t : Test) (p : List Stmt) (c : Expr) (b : Option (List Stmt)) → s.kind ≡ kind.While p c b
+      → t.notes.now ≡ s.notes → t.span ≡ s.span → t.cond.now ≡ c → statement_piece funs s ≡ while_of funs t (body_piece funs p) b
+  loop_is s t p c b e n at q =
+      while_is s p c b e
+      ∙ sym (ap (λ x. while_by funs x t.span (body_piece funs p) t.cond.now b) n
+      ∙ ap (λ x. while_by funs s.notes x (body_piece funs p) t.cond.now b) at
+      ∙ ap (λ x. while_by funs s.notes s.span (body_piece funs p) x b) q)
+
+  pub rounds_are : (s : Stmt) (k : Counter) (i : Var) (from : Expr) (down : Bool) (to : Expr) (b : List Stmt) → s.kind ≡ kind.For i from down to b
+      → k.notes.now ≡ s.notes → k.span ≡ s.span → k.counter.now ≡ i → k.from.now ≡ from → k.down ≡ down → k.to.now ≡ to → statement_piece funs s ≡ for_of k (body_piece funs b)
+  rounds_are s k i from down to b e n at v f d u =
+      for_is s i from down to b e
+      ∙ sym (ap (λ x. for_with x k.span k.counter.now k.from.now k.down k.to.now (body_piece funs b)) n
+      ∙ ap (λ x. for_with s.notes x k.counter.now k.from.now k.down k.to.now (body_piece funs b)) at
+      ∙ ap (λ x. for_with s.notes s.span x k.from.now k.down k.to.now (body_piece funs b)) v
+      ∙ ap (λ x. for_with s.notes s.span i x k.down k.to.now (body_piece funs b)) f
+      ∙ ap (λ x. for_with s.notes s.span i from x k.to.now (body_piece funs b)) d
+      ∙ ap (λ x. for_with s.notes s.span i from down x (body_piece funs b)) u)
 
 -- ---- calls
 

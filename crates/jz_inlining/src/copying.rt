@@ -50,23 +50,14 @@ fn copy_statement(
     ensures { let piece = statement_piece (funs_in copier.now left) stmt.now in
         IfOk result (Adds piece (names_of names.now) out.old out.new) }
 {
-    let notes = &stmt.notes;
-    let span = stmt.span;
     match &stmt.kind {
         StmtKind::Assign { to, op, rhs, cond } => {
-            let op = *op;
-            let assignment = Assignment {
-                notes,
-                span,
-                to,
-                op,
-                cond,
-            };
+            let assignment = Assignment::of(stmt, to, *op, cond);
             let steps = copy_assign(copier, left, names, assignment, rhs, out)?;
             Ok(steps)
         }
         StmtKind::If(cond, holds, other) => {
-            let test = Test { notes, span, cond };
+            let test = Test::of(stmt, cond);
             let steps = copy_if(copier, left, names, test, holds, other, out)?;
             Ok(steps)
         }
@@ -75,7 +66,7 @@ fn copy_statement(
             cond,
             body,
         } => {
-            let test = Test { notes, span, cond };
+            let test = Test::of(stmt, cond);
             let steps = copy_while(copier, left, names, test, prologue, body, out)?;
             Ok(steps)
         }
@@ -86,20 +77,12 @@ fn copy_statement(
             to,
             body,
         } => {
-            let down = *down;
-            let counter = Counter {
-                notes,
-                span,
-                counter,
-                from,
-                down,
-                to,
-            };
+            let counter = Counter::of(stmt, counter, from, *down, to);
             let steps = copy_for(copier, left, names, counter, body, out)?;
             Ok(steps)
         }
         StmtKind::Mark(vars) => {
-            let steps = copy_mark(copier.alloc, names, notes, span, vars, out)?;
+            let steps = copy_mark(copier.alloc, names, &stmt.notes, stmt.span, vars, out)?;
             Ok(steps)
         }
     }

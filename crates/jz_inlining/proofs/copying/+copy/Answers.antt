@@ -8,7 +8,7 @@ use Rattle.jz_inline.specs.CopiedNames.{names_of}
 use Rattle.jz_inline.specs.Statements.{CopiedFuns, body_piece}
 use Rattle.jz_inlining.specs.InnerCopies.{Adds, Fits, funs_in, block_in, assignment_piece, while_of}
 use Rattle.jz_inlining.specs.declared.copier.Copied.{Copied}
-use Rattle.jz_inlining.proofs.Pieces.{assign_is, if_is, while_is, for_is, mark_is, called_is, plain_value, plain_intrinsic, plain_called}
+use Rattle.jz_inlining.proofs.Pieces.{assignment_is, branch_is, loop_is, rounds_are, mark_is, called_is, plain_value, plain_intrinsic, plain_called}
 use Rattle.jz_inlining.proofs.Blocks.{begun, fits, one_more, none_left}
 use Rattle.jz_inlining.proofs.Adding.{left_fits, right_fits, if_adds, turns_adds, until_adds, for_adds, alone}
 use Rattle.jz_inlining.proofs.Calling.{number_fits, body_fits, call_adds}
@@ -41,32 +41,32 @@ copy_block-returns t c =
 pub copy_statement-copy_assign-requires : goal.copy_statement-copy_assign-requires
 copy_statement-copy_assign-requires t c =
     let x = weight_assign c.args.stmt.now c.in-Assign.to c.in-Assign.op c.in-Assign.rhs c.in-Assign.cond c.in-Assign.is in
-    (omega (arith, x, c.decreases), subst (Fits c.args.out.now.next) (assign_is (funs_in c.args.copier.now c.args.left) c.args.stmt.now c.in-Assign.to c.in-Assign.op c.in-Assign.rhs c.in-Assign.cond c.in-Assign.is) c.requires.few)
+    (omega (arith, x, c.decreases), subst (Fits c.args.out.now.next) (assignment_is (funs_in c.args.copier.now c.args.left) c.args.stmt.now c.of-assignment.result c.in-Assign.to c.in-Assign.op c.in-Assign.rhs c.in-Assign.cond c.in-Assign.is c.of-assignment.ensures.notes c.of-assignment.ensures.span c.of-assignment.ensures.to c.of-assignment.ensures.op c.of-assignment.ensures.cond) c.requires.few)
 
 pub copy_statement-copy_if-requires : goal.copy_statement-copy_if-requires
 copy_statement-copy_if-requires t c =
     let x = weight_if c.args.stmt.now c.in-If.cond c.in-If.holds c.in-If.other c.in-If.is in
-    (omega (arith, x, c.decreases), subst (Fits c.args.out.now.next) (if_is (funs_in c.args.copier.now c.args.left) c.args.stmt.now c.in-If.cond c.in-If.holds c.in-If.other c.in-If.is) c.requires.few)
+    (omega (arith, x, c.decreases), subst (Fits c.args.out.now.next) (branch_is (funs_in c.args.copier.now c.args.left) c.args.stmt.now c.of-test.result c.in-If.cond c.in-If.holds c.in-If.other c.in-If.is c.of-test.ensures.notes c.of-test.ensures.span c.of-test.ensures.cond) c.requires.few)
 
 pub copy_statement-copy_for-requires : goal.copy_statement-copy_for-requires
 copy_statement-copy_for-requires t c =
     let x = weight_for c.args.stmt.now c.in-For.counter c.in-For.from c.in-For.down c.in-For.to c.in-For.body c.in-For.is in
-    (omega (arith, x, c.decreases), subst (Fits c.args.out.now.next) (for_is (funs_in c.args.copier.now c.args.left) c.args.stmt.now c.in-For.counter c.in-For.from c.in-For.down c.in-For.to c.in-For.body c.in-For.is) c.requires.few)
+    (omega (arith, x, c.decreases), subst (Fits c.args.out.now.next) (rounds_are (funs_in c.args.copier.now c.args.left) c.args.stmt.now c.of-counter.result c.in-For.counter c.in-For.from c.in-For.down c.in-For.to c.in-For.body c.in-For.is c.of-counter.ensures.notes c.of-counter.ensures.span c.of-counter.ensures.counter c.of-counter.ensures.from c.of-counter.ensures.down c.of-counter.ensures.to) c.requires.few)
 
 pub copy_statement-returns-in_ok-steps-in-Assign : goal.copy_statement-returns-in_ok-steps-in-Assign
 copy_statement-returns-in_ok-steps-in-Assign t c =
     subst (λ p. Adds p (names_of c.args.names.now) c.args.out.now c.copy_assign.new.out c.in_ok-steps-in-Assign.steps)
-    (sym (assign_is (funs_in c.args.copier.now c.args.left) c.args.stmt.now c.in-Assign.to c.in-Assign.op c.in-Assign.rhs c.in-Assign.cond c.in-Assign.is)) c.in_ok-steps-in-Assign.ensures
+    (sym (assignment_is (funs_in c.args.copier.now c.args.left) c.args.stmt.now c.of-assignment.result c.in-Assign.to c.in-Assign.op c.in-Assign.rhs c.in-Assign.cond c.in-Assign.is c.of-assignment.ensures.notes c.of-assignment.ensures.span c.of-assignment.ensures.to c.of-assignment.ensures.op c.of-assignment.ensures.cond)) c.in_ok-steps-in-Assign.ensures
 
 pub copy_statement-returns-in_ok-steps-in-If : goal.copy_statement-returns-in_ok-steps-in-If
 copy_statement-returns-in_ok-steps-in-If t c =
     subst (λ p. Adds p (names_of c.args.names.now) c.args.out.now c.copy_if.new.out c.in_ok-steps-in-If.steps)
-    (sym (if_is (funs_in c.args.copier.now c.args.left) c.args.stmt.now c.in-If.cond c.in-If.holds c.in-If.other c.in-If.is)) c.in_ok-steps-in-If.ensures
+    (sym (branch_is (funs_in c.args.copier.now c.args.left) c.args.stmt.now c.of-test.result c.in-If.cond c.in-If.holds c.in-If.other c.in-If.is c.of-test.ensures.notes c.of-test.ensures.span c.of-test.ensures.cond)) c.in_ok-steps-in-If.ensures
 
 pub copy_statement-returns-in_ok-steps-in-For : goal.copy_statement-returns-in_ok-steps-in-For
 copy_statement-returns-in_ok-steps-in-For t c =
     subst (λ p. Adds p (names_of c.args.names.now) c.args.out.now c.copy_for.new.out c.in_ok-steps-in-For.steps)
-    (sym (for_is (funs_in c.args.copier.now c.args.left) c.args.stmt.now c.in-For.counter c.in-For.from c.in-For.down c.in-For.to c.in-For.body c.in-For.is)) c.in_ok-steps-in-For.ensures
+    (sym (rounds_are (funs_in c.args.copier.now c.args.left) c.args.stmt.now c.of-counter.result c.in-For.counter c.in-For.from c.in-For.down c.in-For.to c.in-For.body c.in-For.is c.of-counter.ensures.notes c.of-counter.ensures.span c.of-counter.ensures.counter c.of-counter.ensures.from c.of-counter.ensures.down c.of-counter.ensures.to)) c.in_ok-steps-in-For.ensures
 
 pub copy_statement-returns-in_ok-steps-in-Mark : goal.copy_statement-returns-in_ok-steps-in-Mark
 copy_statement-returns-in_ok-steps-in-Mark t c =
@@ -76,12 +76,12 @@ copy_statement-returns-in_ok-steps-in-Mark t c =
 pub copy_statement-copy_while-requires : goal.copy_statement-copy_while-requires
 copy_statement-copy_while-requires t c =
     let x = weight_while c.args.stmt.now c.in-While.prologue c.in-While.cond c.in-While.body c.in-While.is in
-    (omega (arith, x, c.decreases), subst (Fits c.args.out.now.next) (while_is (funs_in c.args.copier.now c.args.left) c.args.stmt.now c.in-While.prologue c.in-While.cond c.in-While.body c.in-While.is) c.requires.few)
+    (omega (arith, x, c.decreases), subst (Fits c.args.out.now.next) (loop_is (funs_in c.args.copier.now c.args.left) c.args.stmt.now c.of-test-in-While.result c.in-While.prologue c.in-While.cond c.in-While.body c.in-While.is c.of-test-in-While.ensures.notes c.of-test-in-While.ensures.span c.of-test-in-While.ensures.cond) c.requires.few)
 
 pub copy_statement-returns-in_ok-steps-in-While : goal.copy_statement-returns-in_ok-steps-in-While
 copy_statement-returns-in_ok-steps-in-While t c =
     subst (λ p. Adds p (names_of c.args.names.now) c.args.out.now c.copy_while.new.out c.in_ok-steps-in-While.steps)
-    (sym (while_is (funs_in c.args.copier.now c.args.left) c.args.stmt.now c.in-While.prologue c.in-While.cond c.in-While.body c.in-While.is)) c.in_ok-steps-in-While.ensures
+    (sym (loop_is (funs_in c.args.copier.now c.args.left) c.args.stmt.now c.of-test-in-While.result c.in-While.prologue c.in-While.cond c.in-While.body c.in-While.is c.of-test-in-While.ensures.notes c.of-test-in-While.ensures.span c.of-test-in-While.ensures.cond)) c.in_ok-steps-in-While.ensures
 
 -- ---- assignments and calls
 
