@@ -12,12 +12,11 @@ use Rattle.jz_tree.specs.declared.expr.Expr.{Expr}
 use Rattle.jz_tree.specs.declared.expr.Var.{Var}
 use Rattle.jz_tree.specs.declared.stmt.Lval.{Lval}
 use Rattle.jz_tree.specs.declared.stmt.Stmt.{Stmt}
-use Rattle.jz_tree.specs.declared.stmt.StmtKind.TheVariants as kind
 use Rattle.jz_tree.specs.declared.program.Fun.{Fun}
 use Rattle.jz_runs.specs.Views.{leak_of, turn_of, items_view}
 use Rattle.jz_runs.specs.ShownRuns.{before, Runs, RunsRounds, Leads, TurnOutcome, last, more, cut, stuck_in, IsTurn, IsTested, Passed, Turned, Counted, finished_outcome, call_left_outcome, call_outcome}
 use Rattle.jz_runs.proofs.Shown.{op_leads, op_stuck, quiet_leads, runs_whole, if_leads, if_stuck, loop_leads, each_leads, each_stuck, call_leads, enter_stuck, prologue_is_stuck, prologue_is_cut, test_is_stuck, test_is_false, turn_is_wanted, body_is_stuck, body_is_cut, body_is_over, next_turn, last_turn, cut_turn, stuck_turn, next_count, counted_all, cut_in_count, stuck_in_count, next_passed, whole_passed, cut_passed, stuck_passed}
-use Rattle.jz_meaning.specs.Trees.{done, op, choose, loop, each, call}
+use Rattle.jz_meaning.specs.Trees.{done, quiet, op, choose, loop, each, call}
 use Rattle.jz_meaning.specs.Rules.{stuck, went, Outcome, End, Cut, Stuck}
 use Rattle.jz_tree.specs.Memory.{Memory}
 use Rattle.jz_meaning.specs.declared.store.Store as code_store
@@ -41,7 +40,6 @@ use Rattle.jz_interp.specs.declared.ends.TurnEnd.{TurnEnd}
 use Rattle.jz_interp.specs.declared.ends.RoundsEnd.{RoundsEnd}
 use Rattle.jz_interp.specs.InnerEnds.{seen_outcome, turn_seen, rounds_seen, wrapped_run}
 use Rattle.jz_run_assign.proofs.RestLemmas.{rest_at}
-use Rattle.jz_interp.proofs.Pieces.{mark_is}
 
 -- what is known of an answer that is this variant
 pub as_end : (f : Block → Block) (n m : ℕ) (s t : State) (r : Ran) (is : List Item) → Leads items_view source f n s (seen_outcome (Ok r) t) → r ≡ ran_as.End m is → Leads items_view source f n s (End t m is)
@@ -110,11 +108,10 @@ module _ (callees : Callees) (ss : List Stmt) (n0 : ℕ) (s0 : State) (i : ℕ) 
     pub block_goes : (is js : List Item) (m1 : ℕ) (t1 : State) → js ≡ so_far ++ is → Leads items_view source (statement_tree callees x) m t (End t1 m1 is) → Passed items_view source (block callees ss) (block callees (drop (i + 1) ss)) n0 s0 js m1 t1
     block_goes is js m1 t1 e g = subst (λ y. Passed items_view source (block callees ss) (block callees (drop (i + 1) ss)) n0 s0 y m1 t1) (sym e) (next_passed items_view source (block callees ss) n0 s0 (statement_tree callees x) (block callees (drop (i + 1) ss)) at_head is g)
 
-pub mark_leads : (callees : Callees) (x : Stmt) (xs : List Var) (n : ℕ) (s t : State) (is : List Item) → x.kind ≡ kind.Mark xs → t ≡ record s { store = all_unset xs s.store } → is ≡ [] → Leads items_view source (statement_tree callees x) n s (End t n is)
-mark_leads callees x xs n s t is e it ii =
-    subst (λ y. Leads items_view source (statement_tree callees x) n s (End t n y)) (sym ii)
-    (subst (λ y. Leads items_view source (statement_tree callees x) n s (End y n [])) (sym it)
-    (subst (λ y. Leads items_view source y n s (End (record s { store = all_unset xs s.store }) n [])) (sym (mark_is callees x xs e)) (quiet_leads items_view source (unset xs) n s)))
+pub mark_leads : (xs : List Var) (n : ℕ) (s t : State) (is : List Item) → t ≡ record s { store = all_unset xs s.store } → is ≡ [] → Leads items_view source (quiet (unset xs)) n s (End t n is)
+mark_leads xs n s t is it ii =
+    subst (λ y. Leads items_view source (quiet (unset xs)) n s (End t n y)) (sym ii)
+    (subst (λ y. Leads items_view source (quiet (unset xs)) n s (End y n [])) (sym it) (quiet_leads items_view source (unset xs) n s))
 
 -- ---- `if`
 

@@ -15,10 +15,10 @@ use crate::code::Code;
 use crate::counters::{Values, counter_values};
 use crate::ends::{Ran, RoundsEnd, TurnEnd, end_of_if, one, turn};
 use crate::parts::{Counter, Named, Test};
-use crate::straight::{run_instruction, run_value};
+use crate::straight::{run_instruction, run_mark, run_value};
 use jz_leak::{Item, Leak};
 use jz_meaning::{State, Stuck, Value, missing};
-use jz_run_assign::{Assignment, Call, enter, leave, set, truth_in, unset_all, value_of};
+use jz_run_assign::{Assignment, Call, enter, leave, set, truth_in, value_of};
 use jz_tree::{Failure, Rhs, Seq, Stmt, StmtKind, Var};
 use std::mem::replace;
 
@@ -67,13 +67,11 @@ fn run_statement(
         StmtKind::Assign { to, op, rhs, cond } => {
             let op = *op;
             let assignment = Assignment { to, op, cond, span };
-            let ran = run_assign(code, depth, assignment, rhs, state, fuel)?;
-            Ok(ran)
+            run_assign(code, depth, assignment, rhs, state, fuel)
         }
         StmtKind::If(cond, holds, other) => {
             let test = Test { cond, span };
-            let ran = run_if(code, depth, test, holds, other, state, fuel)?;
-            Ok(ran)
+            run_if(code, depth, test, holds, other, state, fuel)
         }
         StmtKind::While {
             prologue,
@@ -81,8 +79,7 @@ fn run_statement(
             body,
         } => {
             let test = Test { cond, span };
-            let ran = run_while(code, depth, prologue, test, body, state, fuel)?;
-            Ok(ran)
+            run_while(code, depth, prologue, test, body, state, fuel)
         }
         StmtKind::For {
             counter,
@@ -98,13 +95,9 @@ fn run_statement(
                 to,
                 span,
             };
-            let ran = run_for(code, depth, counter, body, state, fuel)?;
-            Ok(ran)
+            run_for(code, depth, counter, body, state, fuel)
         }
-        StmtKind::Mark(vars) => {
-            unset_all(vars, &mut state.store)?;
-            Ok(Ran::End(fuel, Seq::new(code.alloc)))
-        }
+        StmtKind::Mark(vars) => run_mark(vars, state, fuel),
     }
 }
 

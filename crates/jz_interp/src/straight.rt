@@ -9,9 +9,9 @@ use crate::ends::{Ran, one};
 use crate::parts::Named;
 use jz_leak::Item;
 use jz_meaning::{State, Stuck, missing};
-use jz_run_assign::{Assignment, assign};
+use jz_run_assign::{Assignment, assign, unset_all};
 use jz_run_instruct::instruct;
-use jz_tree::{Expr, Failure, Lval, Seq};
+use jz_tree::{Expr, Failure, Lval, Seq, Var};
 
 /// An assignment of an expression.
 pub fn run_value(
@@ -67,4 +67,14 @@ pub fn run_instruction(
             }
         },
     }
+}
+
+/// A statement that takes away the values of variables.
+pub fn run_mark(vars: &Seq<Var>, state: &mut State, fuel: u64) -> Result<Ran, Failure<Stuck>>
+    ensures { let piece = tree.quiet (statements.unset vars.now) in
+        RunsPiece result fuel state.old state.new piece }
+{
+    let alloc = state.store.allocator();
+    unset_all(vars, &mut state.store)?;
+    Ok(Ran::End(fuel, Seq::new(alloc)))
 }

@@ -3,6 +3,7 @@ use Rattle.std.specs.Prelude.{◌≡◌, ◌-◌, true, false, not, is_some, Som
 use Rattle.std.specs.Option.{option_copied}
 use Rattle.std.specs.Int.{w128}
 use Rattle.std.proofs.lemmas.Int.{to_z-of_z}
+use Rattle.jz_tree.specs.Failures.{IfAnswered}
 use Rattle.jz_runs.specs.Views.{items_view}
 use Rattle.jz_runs.specs.ShownRuns.{Leads}
 use Rattle.jz_meaning.specs.Trees.{done, choose, each, call, loop}
@@ -20,11 +21,11 @@ use Rattle.jz_interp.specs.InnerRounds.{values_left, evaluated_values, RoundsOf}
 use Rattle.jz_interp.specs.InnerEnds.{seen_outcome, turn_seen, rounds_seen}
 use Rattle.jz_interp.specs.InnerEnds.{PieceGoes, TurnGoes, TestGoes, RoundsGo}
 use Rattle.jz_interp.proofs.Falls.{weights_at, one_deeper}
-use Rattle.jz_interp.proofs.Pieces.{assign_is, if_is, while_is, for_is}
+use Rattle.jz_interp.proofs.Pieces.{assign_is, if_is, while_is, for_is, mark_is}
 use Rattle.jz_meaning.proofs.AttemptLemmas.{handed_on}
 use Rattle.jz_interp.proofs.Rules.{NumbersGo, arguments_of}
 use Rattle.jz_interp.proofs.Rules.{as_end, as_cut, turn_as, rounds_as}
-use Rattle.jz_interp.proofs.Rules.{block_stuck, block_cut, block_goes, mark_leads}
+use Rattle.jz_interp.proofs.Rules.{block_stuck, block_cut, block_goes}
 use Rattle.jz_interp.proofs.Rules.{if_fails, arm_stuck, if_goes, truth_is}
 use Rattle.jz_interp.proofs.Rules.{test_stuck, test_false, test_wanted}
 use Rattle.jz_interp.proofs.Rules.{test_body_stuck, test_body_cut, test_body_over}
@@ -61,62 +62,30 @@ run_block-loop-stmt-preserved t c =
     block_goes (callees_in c.args.code.now c.args.depth) c.args.stmts.now c.args.fuel (state_of c.args.state.now) c.loop-stmt.stmt-index c.loop-stmt.items c.loop-stmt.left (state_of c.loop-stmt.state) c.loop-stmt.invariant c.stmt-item.result (search rules) (search rules)
     c.in-End.more _ c.in-End.still (state_of c.run_statement.new.state) (search rules) (as_end _ _ _ _ (state_of c.run_statement.new.state) c.in_ok-more.field-0 c.in-End.more c.in_ok-more.ensures c.in-End.is)
 
-pub run_statement-returns-in_err-ran-in-Assign : goal.run_statement-returns-in_err-ran-in-Assign
-run_statement-returns-in_err-ran-in-Assign t c =
-    let f = statement_tree (callees_in c.args.code.now c.args.depth) c.args.stmt.now in let u = state_of c.run_assign.new.state in
-    handed_on c.from_residual.result c.in_err-ran-in-Assign.field-0.0
-    (PieceGoes _ c.args.fuel (state_of c.args.state.now) u) (PieceGoes f c.args.fuel (state_of c.args.state.now) u)
-    c.from_residual.ensures.1 c.in_err-ran-in-Assign.ensures
-    (λ k h. subst (λ g. PieceGoes g c.args.fuel (state_of c.args.state.now) u (Err k)) (sym (assign_is (callees_in c.args.code.now c.args.depth) c.args.stmt.now c.in-Assign.to c.in-Assign.op c.in-Assign.rhs c.in-Assign.cond c.in-Assign.is)) h)
+pub run_statement-returns-in-Assign : goal.run_statement-returns-in-Assign
+run_statement-returns-in-Assign t c =
+    subst (λ f. IfAnswered c.run_assign.result (PieceGoes f c.args.fuel (state_of c.args.state.now) (state_of c.run_assign.new.state)))
+    (sym (assign_is (callees_in c.args.code.now c.args.depth) c.args.stmt.now c.in-Assign.to c.in-Assign.op c.in-Assign.rhs c.in-Assign.cond c.in-Assign.is)) c.run_assign.ensures
 
-pub run_statement-returns-in_ok-ran-in-Assign : goal.run_statement-returns-in_ok-ran-in-Assign
-run_statement-returns-in_ok-ran-in-Assign t c =
-    subst (λ f. Leads items_view source f c.args.fuel (state_of c.args.state.now) (seen_outcome (Ok c.in_ok-ran-in-Assign.ran) (state_of c.run_assign.new.state)))
-    (sym (assign_is (callees_in c.args.code.now c.args.depth) c.args.stmt.now c.in-Assign.to c.in-Assign.op c.in-Assign.rhs c.in-Assign.cond c.in-Assign.is)) c.in_ok-ran-in-Assign.ensures
+pub run_statement-returns-in-If : goal.run_statement-returns-in-If
+run_statement-returns-in-If t c =
+    subst (λ f. IfAnswered c.run_if.result (PieceGoes f c.args.fuel (state_of c.args.state.now) (state_of c.run_if.new.state)))
+    (sym (if_is (callees_in c.args.code.now c.args.depth) c.args.stmt.now c.in-If.cond c.in-If.holds c.in-If.other c.in-If.is)) c.run_if.ensures
 
-pub run_statement-returns-in_err-ran-in-If : goal.run_statement-returns-in_err-ran-in-If
-run_statement-returns-in_err-ran-in-If t c =
-    let f = statement_tree (callees_in c.args.code.now c.args.depth) c.args.stmt.now in let u = state_of c.run_if.new.state in
-    handed_on c.from_residual-in_err-ran-in-If.result c.in_err-ran-in-If.field-0.0
-    (PieceGoes _ c.args.fuel (state_of c.args.state.now) u) (PieceGoes f c.args.fuel (state_of c.args.state.now) u)
-    c.from_residual-in_err-ran-in-If.ensures.1 c.in_err-ran-in-If.ensures
-    (λ k h. subst (λ g. PieceGoes g c.args.fuel (state_of c.args.state.now) u (Err k)) (sym (if_is (callees_in c.args.code.now c.args.depth) c.args.stmt.now c.in-If.cond c.in-If.holds c.in-If.other c.in-If.is)) h)
+pub run_statement-returns-in-While : goal.run_statement-returns-in-While
+run_statement-returns-in-While t c =
+    subst (λ f. IfAnswered c.run_while.result (PieceGoes f c.args.fuel (state_of c.args.state.now) (state_of c.run_while.new.state)))
+    (sym (while_is (callees_in c.args.code.now c.args.depth) c.args.stmt.now c.in-While.prologue c.in-While.cond c.in-While.body c.in-While.is)) c.run_while.ensures
 
-pub run_statement-returns-in_ok-ran-in-If : goal.run_statement-returns-in_ok-ran-in-If
-run_statement-returns-in_ok-ran-in-If t c =
-    subst (λ f. Leads items_view source f c.args.fuel (state_of c.args.state.now) (seen_outcome (Ok c.in_ok-ran-in-If.ran) (state_of c.run_if.new.state)))
-    (sym (if_is (callees_in c.args.code.now c.args.depth) c.args.stmt.now c.in-If.cond c.in-If.holds c.in-If.other c.in-If.is)) c.in_ok-ran-in-If.ensures
+pub run_statement-returns-in-For : goal.run_statement-returns-in-For
+run_statement-returns-in-For t c =
+    subst (λ f. IfAnswered c.run_for.result (PieceGoes f c.args.fuel (state_of c.args.state.now) (state_of c.run_for.new.state)))
+    (sym (for_is (callees_in c.args.code.now c.args.depth) c.args.stmt.now c.in-For.counter c.in-For.from c.in-For.down c.in-For.to c.in-For.body c.in-For.is)) c.run_for.ensures
 
-pub run_statement-returns-in_err-ran-in-While : goal.run_statement-returns-in_err-ran-in-While
-run_statement-returns-in_err-ran-in-While t c =
-    let f = statement_tree (callees_in c.args.code.now c.args.depth) c.args.stmt.now in let u = state_of c.run_while.new.state in
-    handed_on c.from_residual-in_err-ran-in-While.result c.in_err-ran-in-While.field-0.0
-    (PieceGoes _ c.args.fuel (state_of c.args.state.now) u) (PieceGoes f c.args.fuel (state_of c.args.state.now) u)
-    c.from_residual-in_err-ran-in-While.ensures.1 c.in_err-ran-in-While.ensures
-    (λ k h. subst (λ g. PieceGoes g c.args.fuel (state_of c.args.state.now) u (Err k)) (sym (while_is (callees_in c.args.code.now c.args.depth) c.args.stmt.now c.in-While.prologue c.in-While.cond c.in-While.body c.in-While.is)) h)
-
-pub run_statement-returns-in_ok-ran-in-While : goal.run_statement-returns-in_ok-ran-in-While
-run_statement-returns-in_ok-ran-in-While t c =
-    subst (λ f. Leads items_view source f c.args.fuel (state_of c.args.state.now) (seen_outcome (Ok c.in_ok-ran-in-While.ran) (state_of c.run_while.new.state)))
-    (sym (while_is (callees_in c.args.code.now c.args.depth) c.args.stmt.now c.in-While.prologue c.in-While.cond c.in-While.body c.in-While.is)) c.in_ok-ran-in-While.ensures
-
-pub run_statement-returns-in_err-ran-in-For : goal.run_statement-returns-in_err-ran-in-For
-run_statement-returns-in_err-ran-in-For t c =
-    let f = statement_tree (callees_in c.args.code.now c.args.depth) c.args.stmt.now in let u = state_of c.run_for.new.state in
-    handed_on c.from_residual-in_err-ran-in-For.result c.in_err-ran-in-For.field-0.0
-    (PieceGoes _ c.args.fuel (state_of c.args.state.now) u) (PieceGoes f c.args.fuel (state_of c.args.state.now) u)
-    c.from_residual-in_err-ran-in-For.ensures.1 c.in_err-ran-in-For.ensures
-    (λ k h. subst (λ g. PieceGoes g c.args.fuel (state_of c.args.state.now) u (Err k)) (sym (for_is (callees_in c.args.code.now c.args.depth) c.args.stmt.now c.in-For.counter c.in-For.from c.in-For.down c.in-For.to c.in-For.body c.in-For.is)) h)
-
-pub run_statement-returns-in_ok-ran-in-For : goal.run_statement-returns-in_ok-ran-in-For
-run_statement-returns-in_ok-ran-in-For t c =
-    subst (λ f. Leads items_view source f c.args.fuel (state_of c.args.state.now) (seen_outcome (Ok c.in_ok-ran-in-For.ran) (state_of c.run_for.new.state)))
-    (sym (for_is (callees_in c.args.code.now c.args.depth) c.args.stmt.now c.in-For.counter c.in-For.from c.in-For.down c.in-For.to c.in-For.body c.in-For.is)) c.in_ok-ran-in-For.ensures
-
-pub run_statement-returns-in_ok-unset_all-in-Mark : goal.run_statement-returns-in_ok-unset_all-in-Mark
-run_statement-returns-in_ok-unset_all-in-Mark t c =
-    mark_leads (callees_in c.args.code.now c.args.depth) c.args.stmt.now c.in-Mark.vars c.args.fuel (state_of c.args.state.now) _ _ c.in-Mark.is
-    (ap (λ v. let x : State = record { store = v; memory = c.args.state.now.memory } in x) c.in_ok-unset_all-in-Mark.ensures) (search rules)
+pub run_statement-returns-in-Mark : goal.run_statement-returns-in-Mark
+run_statement-returns-in-Mark t c =
+    subst (λ f. IfAnswered c.run_mark.result (PieceGoes f c.args.fuel (state_of c.args.state.now) (state_of c.run_mark.new.state)))
+    (sym (mark_is (callees_in c.args.code.now c.args.depth) c.args.stmt.now c.in-Mark.vars c.in-Mark.is)) c.run_mark.ensures
 
 pub run_if-returns-in_err-answer : goal.run_if-returns-in_err-answer
 run_if-returns-in_err-answer t c =
