@@ -1,11 +1,11 @@
 //! What is found of an expression, by a loop down its left side.
 
-ghost use Rattle.std.specs.Prelude.{◌≡◌, IfOk};
+ghost use Rattle.std.specs.Prelude.{◌≡◌, IfOk, Some, true};
 ghost use Rattle.jz_tree.specs.LeftSides.{IsSingle};
 ghost use Rattle.jz_tree.specs.declared.expr.Expr.TheVariants as expr;
 ghost use Rattle.jz_integers.specs.Integers as integers;
 ghost use Rattle.jz_limits.specs.InnerKnown.{numbers_of};
-ghost use Rattle.jz_limits.specs.InnerLooked.{seen_left, seen_of};
+ghost use Rattle.jz_limits.specs.InnerLooked.{no_part, seen_as, seen_left, seen_of};
 ghost use Rattle.jz_limits.specs.InnerLooked.{cell_found, left_asking, load_found, look_of, pieces_of};
 
 use crate::known::Known;
@@ -57,6 +57,13 @@ pub fn as_constant(n: Option<i128>) -> Option<Constant>
         None => None,
         Some(n) => Some(Constant::Int(n)),
     }
+}
+
+/// A number or a truth that the text has.
+fn look_literal(asking: Asking, span: Span, value: Constant) -> Looked
+    ensures { seen_of result ≡ seen_as true (Some value) span asking no_part }
+{
+    finished(asking, span, true, Some(value), no_pieces())
 }
 
 /// A variable.
@@ -153,14 +160,8 @@ fn look_single(
         IfOk result (λ l. seen_of l ≡ seen) }
 {
     match expr {
-        Expr::Num(n, span) => {
-            let value = Some(Constant::Int(*n));
-            Ok(finished(asking, *span, true, value, no_pieces()))
-        }
-        Expr::Bool(truth, span) => {
-            let value = Some(Constant::Bool(*truth));
-            Ok(finished(asking, *span, true, value, no_pieces()))
-        }
+        Expr::Num(n, span) => Ok(look_literal(asking, *span, Constant::Int(*n))),
+        Expr::Bool(truth, span) => Ok(look_literal(asking, *span, Constant::Bool(*truth))),
         Expr::Var(var) => Ok(look_variable(numbers, asking, var)),
         Expr::Cell(var, index) => {
             let pieces = look_index(alloc, numbers, var, index.get())?;

@@ -1,4 +1,4 @@
-use Rattle.std.proofs.Common.{◌≡◌, ◌∙◌, Some, None, true, false, ap, sym, rules, to_z, of_z, arith}
+use Rattle.std.proofs.Common.{◌≡◌, ◌∙◌, Some, None, true, false, ap, sym, rules, arith}
 use Rattle.std.specs.Int.{w128}
 use Rattle.std.proofs.lemmas.Int.{to_z-of_z}
 use Rattle.jz_tree.specs.declared.expr.Expr.{Expr, size-Expr}
@@ -35,18 +35,15 @@ pub look_single-returns-in-Num : goal.look_single-returns-in-Num
 look_single-returns-in-Num t c =
     let e = numbers_of c.args.numbers.now in
     let q = c.args.asking in
-    c.finished.ensures
-    ∙ (ap (seen_as true (Some (constant.Int (to_z w128 (of_z w128 c.in-Num.n)))) c.in-Num.span q) c.no_pieces.ensures
+    c.look_literal.ensures
     ∙ (ap (λ m. seen_as true (Some (constant.Int m)) c.in-Num.span q no_part) (to_z-of_z w128 c.in-Num.n (search rules))
-    ∙ sym (ap (look_of e q) c.in-Num.is ∙ look_num e q c.in-Num.n c.in-Num.span)))
+    ∙ sym (ap (look_of e q) c.in-Num.is ∙ look_num e q c.in-Num.n c.in-Num.span))
 
 pub look_single-returns-in-Bool : goal.look_single-returns-in-Bool
 look_single-returns-in-Bool t c =
     let e = numbers_of c.args.numbers.now in
     let q = c.args.asking in
-    c.finished-in-Bool.ensures
-    ∙ (ap (seen_as true (Some (constant.Bool c.in-Bool.truth)) c.in-Bool.span q) c.no_pieces-in-Bool.ensures
-    ∙ sym (ap (look_of e q) c.in-Bool.is ∙ look_bool e q c.in-Bool.truth c.in-Bool.span))
+    c.look_literal-in-Bool.ensures ∙ sym (ap (look_of e q) c.in-Bool.is ∙ look_bool e q c.in-Bool.truth c.in-Bool.span)
 
 pub look_single-returns-in-Var : goal.look_single-returns-in-Var
 look_single-returns-in-Var t c =
@@ -57,7 +54,7 @@ look_single-returns-in_ok-pieces-in-Cell t c =
     let e = numbers_of c.args.numbers.now in
     let q = c.args.asking in
     let v = c.in-Cell.var in
-    c.finished-in-Cell.ensures
+    c.finished.ensures
     ∙ (ap (seen_as false None (out-Var v).span q) (c.in_ok-pieces-in-Cell.ensures ∙ ap (cell_found e v) c.get.ensures)
     ∙ sym (ap (look_of e q) c.in-Cell.is ∙ look_cell e q v c.in-Cell.index))
 
