@@ -9,7 +9,7 @@ ghost use Rattle.jz_operations.specs.Insns.{places_in, slots_in, displacement, F
 
 use crate::operation::{Action, Address, Arg, Cell, Condition};
 use jz_words::{Size, fits_four_bytes};
-use x64_insn::{Base, Cond, Count, Flag, Insn, Mem, Operand, Place, Reg};
+use x64_insn::{Base, Cond, Count, Flag, Insn, Mem, Operand, Place, Reg, Shift};
 
 /// Where variables stand: a place for each, and for each stack variable its distance from the stack
 /// pointer.
@@ -217,6 +217,15 @@ impl Places<'_> {
         }
     }
 
+    /// A shift or a rotation of an operand by a count.
+    fn shift(&self, kind: Shift, size: Size, rm: Arg, count: Count) -> Insn
+        requires { Fits (slots_in self.now) size rm }
+        ensures { let shifted = of.operand_of (places_in self.now) (slots_in self.now) rm size in
+            result ≡ Insn.Shift kind size shifted count }
+    {
+        Insn::Shift(kind, size, self.operand(rm, size), count)
+    }
+
     /// The condition of the flags that a condition of variables is.
     pub fn cond(&self, condition: Condition) -> Cond
         ensures { result ≡ of.cond_of (places_in self.now) (slots_in self.now) condition }
@@ -256,12 +265,8 @@ impl Places<'_> {
             Action::ImulBy(size, var, rm, number) => {
                 Insn::ImulBy(size, self.reg(var), self.operand(rm, size), number)
             }
-            Action::Shift(kind, size, rm, count) => {
-                Insn::Shift(kind, size, self.operand(rm, size), Count::Imm(count))
-            }
-            Action::ShiftBy(kind, size, rm, _) => {
-                Insn::Shift(kind, size, self.operand(rm, size), Count::Cl)
-            }
+            Action::Shift(kind, size, rm, count) => self.shift(kind, size, rm, Count::Imm(count)),
+            Action::ShiftBy(kind, size, rm, _) => self.shift(kind, size, rm, Count::Cl),
             Action::Bswap(size, var) => Insn::Bswap(size, self.reg(var)),
             Action::Sign(size, _, _) => sign(size),
             Action::Set(condition, rm) => {
