@@ -137,6 +137,40 @@ fn items_text(alloc: Global, items: &Seq<Numbers>) -> Result<String, AllocError>
     Ok(text)
 }
 
+/// The step of an `if`, with the texts of its arms.
+fn if_text(
+    alloc: Global,
+    before: &Seq<Numbers>,
+    test: &Numbers,
+    then_text: &str,
+    else_text: &str,
+) -> Result<String, AllocError> {
+    let before = items_text(alloc, before)?;
+    let test = numbers_text(alloc, test)?;
+    format!(in alloc;
+        "{}if {}{{{then_text}}} {{{else_text}}} ",
+        before.as_str(),
+        test.as_str()
+    )
+}
+
+/// The step of a `while`, with the texts of its prologue and of its body.
+fn while_text(
+    alloc: Global,
+    prologue: &str,
+    before: &Seq<Numbers>,
+    test: &Numbers,
+    body: &str,
+) -> Result<String, AllocError> {
+    let before = items_text(alloc, before)?;
+    let test = numbers_text(alloc, test)?;
+    format!(in alloc;
+        "while {{{prologue}}} {}{}{{{body}}} ",
+        before.as_str(),
+        test.as_str()
+    )
+}
+
 #[cycle(change_shown)]
 fn change_text(alloc: Global, change: &Change) -> Result<String, AllocError> {
     let mut text = String::new(alloc);
@@ -156,17 +190,9 @@ fn step_text(alloc: Global, step: &Step) -> Result<String, AllocError> {
             then_part,
             else_part,
         } => {
-            let before = items_text(alloc, before)?;
-            let test = numbers_text(alloc, test)?;
             let then_text = change_text(alloc, then_part)?;
             let else_text = change_text(alloc, else_part)?;
-            format!(in alloc;
-                "{}if {}{{{}}} {{{}}} ",
-                before.as_str(),
-                test.as_str(),
-                then_text.as_str(),
-                else_text.as_str()
-            )
+            if_text(alloc, before, test, then_text.as_str(), else_text.as_str())
         }
         Step::While {
             prologue,
@@ -175,16 +201,8 @@ fn step_text(alloc: Global, step: &Step) -> Result<String, AllocError> {
             body,
         } => {
             let prologue = change_text(alloc, prologue)?;
-            let before = items_text(alloc, before)?;
-            let test = numbers_text(alloc, test)?;
             let body = change_text(alloc, body)?;
-            format!(in alloc;
-                "while {{{}}} {}{}{{{}}} ",
-                prologue.as_str(),
-                before.as_str(),
-                test.as_str(),
-                body.as_str()
-            )
+            while_text(alloc, prologue.as_str(), before, test, body.as_str())
         }
         _ => String::from_str(alloc, "other "),
     }
