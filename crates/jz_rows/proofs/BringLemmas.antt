@@ -1,5 +1,5 @@
 -- The three ways in which the first operand comes to the destination.
-use Rattle.std.proofs.Common.{◌≡◌, ℕ, Bool, true, false, List, [], ◌∷◌, ◌++◌, Option, Some, None, refl, ap, ◌∙◌, append-nil}
+use Rattle.std.proofs.Common.{◌≡◌, ℕ, Bool, true, false, List, [], ◌∷◌, ◌++◌, Option, Some, None, refl, ap, sym, ◌∙◌, append-nil}
 use Rattle.std.specs.Prelude.{◌&&◌, if◌then◌else◌}
 use Rattle.jz_words.specs.declared.size.Size.{Size}
 use Rattle.jz_operations.specs.declared.operation.Arg.{Arg}
@@ -12,6 +12,7 @@ use Rattle.jz_row_operations.specs.Table.{same_arg, is_free}
 use Rattle.jz_row_operations.specs.Lowering.{numbers_from, both_shown}
 use Rattle.jz_operands.specs.declared.operands.Operand.{Operand}
 use Rattle.jz_operands.specs.TableHomes.{leaks_of}
+use Rattle.jz_rows.specs.declared.row.Act.{Act}
 use Rattle.jz_rows.specs.Rows.{nth_of, item_of}
 use Rattle.jz_rows.specs.Found.{IsBrought}
 
@@ -78,15 +79,25 @@ module _ (swaps : Bool) (z : Size) (d : Arg) (x y : Operand) (s t : Option ℕ)
     items = ap (λ i. i ∷ []) (item_both t s second first other one) ∙ second_shown (same_arg d x.arg) (swaps && same_arg d y.arg) first second e f;
   }
 
+module _ (swaps : Bool) (z : Size) (d : Arg) (x y : Operand) (copy : Act) (t : Option ℕ)
+    (moved : copy.action ≡ action.Mov z d x.arg) (one : nth_of copy.shown.first ≡ numbers_from (leaks_of x.leaks) 0) (alone : copy.shown.second ≡ None)
+    (other : nth_of t ≡ numbers_from (leaks_of y.leaks) (count_of (leaks_of x.leaks))) where
+  abbrev firsts : List Number
+  firsts = numbers_from (leaks_of x.leaks) 0
+
+  abbrev seconds : List Number
+  seconds = numbers_from (leaks_of y.leaks) (count_of (leaks_of x.leaks))
+
+  copy_shows : item_of copy.shown ≡ These firsts
+  copy_shows = ap (λ (l : Option ℕ). These (nth_of copy.shown.first ++ nth_of l)) alone ∙ item_one copy.shown.first firsts one
+
   pub copied : same_arg d x.arg ≡ false → (swaps && same_arg d y.arg) ≡ false → is_free d y.arg ≡ true
-      → IsBrought swaps z d x y (record {
-        before = Some (record { action = action.Mov z d x.arg; shown = record { first = s; second = None } });
-        second = y.arg;
-        shown = record { first = t; second = None };
-      })
+      → IsBrought swaps z d x y (record { before = Some copy; second = y.arg; shown = record { first = t; second = None } })
   copied e f g = record {
-    actions = third_way (same_arg d x.arg) (swaps && same_arg d y.arg) (is_free d y.arg) z d x.arg y.arg e f g;
+    actions =
+        third_way (same_arg d x.arg) (swaps && same_arg d y.arg) (is_free d y.arg) z d x.arg y.arg e f g
+        ∙ ap (λ (a : Action). Some (a ∷ [], y.arg)) (sym moved);
     items =
-        ap (λ i. i ∷ item_of (record { first = t; second = None }) ∷ []) (item_one s first one)
-        ∙ ap (λ i. These first ∷ i ∷ []) (item_one t second other) ∙ third_shown (same_arg d x.arg) (swaps && same_arg d y.arg) first second e f;
+        ap (λ i. i ∷ item_of (record { first = t; second = None }) ∷ []) copy_shows
+        ∙ ap (λ i. These firsts ∷ i ∷ []) (item_one t seconds other) ∙ third_shown (same_arg d x.arg) (swaps && same_arg d y.arg) firsts seconds e f;
   }

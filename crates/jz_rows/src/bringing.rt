@@ -52,6 +52,21 @@ pub fn count(leaks: Leaks) -> u64
     }
 }
 
+/// The copy of an operand to the destination, with the place of the number that it shows.
+fn copy_to(size: Size, to: Arg, from: Arg, number: Option<u64>) -> Act
+    ensures action { result.action ≡ Action.Mov size to from }
+    ensures first { result.shown.first ≡ number }
+    ensures second { result.shown.second ≡ None }
+{
+    Act {
+        action: Action::Mov(size, to, from),
+        shown: Shown {
+            first: number,
+            second: None,
+        },
+    }
+}
+
 /// The first operand is the destination; or the operands may be swapped, and the second one is; or
 /// the destination stands nowhere in the second one, and the first is copied to it.
 #[tactic(auto, using(crate::proofs::BringLemmas::in_place, crate::proofs::BringLemmas::swapped, crate::proofs::BringLemmas::copied))]
@@ -84,13 +99,7 @@ pub fn bring(swaps: bool, size: Size, to: Arg, first: Operand, second: Operand) 
     if !is_free(to, second.arg) {
         return None;
     }
-    let copy = Act {
-        action: Action::Mov(size, to, first.arg),
-        shown: Shown {
-            first: one,
-            second: None,
-        },
-    };
+    let copy = copy_to(size, to, first.arg, one);
     Some(Brought {
         before: Some(copy),
         second: second.arg,
