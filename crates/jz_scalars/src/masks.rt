@@ -81,6 +81,16 @@ fn operation(op: BinOp, left: Masked, right: Masked) -> Result<Masked, AllocErro
     })
 }
 
+/// An expression that leaks no number.
+fn silent(alloc: Global, whole: bool) -> Masked
+    ensures { result ≡ record { whole = whole; mask = [] } }
+{
+    Masked {
+        whole,
+        mask: Seq::new(alloc),
+    }
+}
+
 #[tactic(auto, using(crate::proofs::MaskLemmas::last_operand))]
 fn joined(side: Side) -> Result<Masked, AllocError>
     ensures { IfOk result (λ made. made ≡ masked_left side.operands.items side.first) }
@@ -167,18 +177,9 @@ fn masked_single(alloc: Global, expr: &Expr) -> Result<Masked, AllocError>
     ensures { IfOk result (λ made. made ≡ masked_of expr.now) }
 {
     match expr {
-        Expr::Num(_, _) => Ok(Masked {
-            whole: true,
-            mask: Seq::new(alloc),
-        }),
-        Expr::Bool(_, _) => Ok(Masked {
-            whole: false,
-            mask: Seq::new(alloc),
-        }),
-        Expr::Var(var) => Ok(Masked {
-            whole: is_int(var),
-            mask: Seq::new(alloc),
-        }),
+        Expr::Num(_, _) => Ok(silent(alloc, true)),
+        Expr::Bool(_, _) => Ok(silent(alloc, false)),
+        Expr::Var(var) => Ok(silent(alloc, is_int(var))),
         Expr::Cell(array, at) => {
             let place = with_mask(alloc, at.get())?;
             let cell = masked_cell(alloc, array, at.get(), place)?;
@@ -196,12 +197,7 @@ fn masked_single(alloc: Global, expr: &Expr) -> Result<Masked, AllocError>
             let inner = with_mask(alloc, e.get())?;
             Ok(inner)
         }
-        Expr::Cast {
-            size: _,
-            signed: _,
-            e,
-            span: _,
-        } => {
+        Expr::Cast { e, .. } => {
             let inner = with_mask(alloc, e.get())?;
             let Masked { whole: _, mask } = inner;
             Ok(Masked { whole: false, mask })
@@ -221,10 +217,7 @@ pub(crate) fn masked_to(alloc: Global, to: &Lval) -> Result<Option<Masked>, Allo
 {
     match to {
         Lval::Skip(_) => Ok(None),
-        Lval::Var(var) => Ok(Some(Masked {
-            whole: is_int(var),
-            mask: Seq::new(alloc),
-        })),
+        Lval::Var(var) => Ok(Some(silent(alloc, is_int(var)))),
         Lval::Cell(array, at) => {
             let place = with_mask(alloc, at.get())?;
             let cell = masked_cell(alloc, array, at.get(), place)?;

@@ -101,8 +101,29 @@ pub(crate) fn made_if(
     Ok(MadeKind { kind, steps })
 }
 
+/// A `while`, of which the body may be absent.
+pub(crate) fn made_while(
+    alloc: Global,
+    prologue: Made,
+    cond: &Expr,
+    body: Option<Made>,
+) -> Result<MadeKind, AllocError>
+    ensures { IfOk result (λ made. made ≡ scalars.made_while prologue cond.now body) }
+{
+    match body {
+        None => {
+            let made = made_until(alloc, prologue, cond)?;
+            Ok(made)
+        }
+        Some(turn) => {
+            let made = made_turns(alloc, prologue, cond, turn)?;
+            Ok(made)
+        }
+    }
+}
+
 /// A loop that ends with its test.
-pub(crate) fn made_until(alloc: Global, prologue: Made, cond: &Expr) -> Result<MadeKind, AllocError>
+fn made_until(alloc: Global, prologue: Made, cond: &Expr) -> Result<MadeKind, AllocError>
     ensures { IfOk result (λ made. made ≡ scalars.made_until prologue cond.now) }
 {
     let test = test_numbers(alloc, cond)?;
@@ -128,7 +149,7 @@ pub(crate) fn made_until(alloc: Global, prologue: Made, cond: &Expr) -> Result<M
     Ok(MadeKind { kind, steps })
 }
 
-pub(crate) fn made_turns(
+fn made_turns(
     alloc: Global,
     prologue: Made,
     cond: &Expr,

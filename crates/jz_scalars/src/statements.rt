@@ -1,10 +1,10 @@
 //! Statements whose cells are scalars.
 
-ghost use Rattle.std.specs.Prelude.{◌≡◌, IfOk};
+ghost use Rattle.std.specs.Prelude.{◌≡◌, IfOk, option_map};
 ghost use Rattle.jz_scalars.specs.Scalars as scalars;
 
 use crate::made::{Made, MadeKind, MadeOne};
-use crate::plain::{made_assign, made_for, made_if, made_mark, made_turns, made_until};
+use crate::plain::{made_assign, made_for, made_if, made_mark, made_while};
 use jz_tree::{Seq, Stmt, StmtKind, copy_notes};
 use std::alloc::{AllocError, Global};
 
@@ -22,6 +22,20 @@ pub(crate) fn made_block(alloc: Global, stmts: &Seq<Stmt>) -> Result<Made, Alloc
         steps.append(more)?;
     }
     Ok(Made { stmts: made, steps })
+}
+
+/// The body of a `while`, where it has one.
+#[cycle(made)]
+fn made_body(alloc: Global, body: &Option<Seq<Stmt>>) -> Result<Option<Made>, AllocError>
+    ensures { IfOk result (λ made. made ≡ option_map scalars.block_made body.now) }
+{
+    match body {
+        None => Ok(None),
+        Some(stmts) => {
+            let turn = made_block(alloc, stmts)?;
+            Ok(Some(turn))
+        }
+    }
 }
 
 #[cycle(made)]
@@ -55,19 +69,12 @@ fn made_kind(alloc: Global, kind: &StmtKind) -> Result<MadeKind, AllocError>
             prologue,
             cond,
             body,
-        } => match body {
-            None => {
-                let before = made_block(alloc, prologue)?;
-                let made = made_until(alloc, before, cond)?;
-                Ok(made)
-            }
-            Some(body) => {
-                let before = made_block(alloc, prologue)?;
-                let turn = made_block(alloc, body)?;
-                let made = made_turns(alloc, before, cond, turn)?;
-                Ok(made)
-            }
-        },
+        } => {
+            let before = made_block(alloc, prologue)?;
+            let turn = made_body(alloc, body)?;
+            let made = made_while(alloc, before, cond, turn)?;
+            Ok(made)
+        }
         StmtKind::For {
             counter,
             from,

@@ -20,14 +20,14 @@ masked_side-loop-rest-preserved t c =
     )
 
 pub masked_single-returns-in-Num : goal.masked_single-returns-in-Num
-masked_single-returns-in-Num t c = ap (masked_as true) c.new.ensures ∙ sym (ap masked_of c.in-Num.is ∙ of_num _ _)
+masked_single-returns-in-Num t c = c.silent.ensures ∙ sym (ap masked_of c.in-Num.is ∙ of_num _ _)
 
 pub masked_single-returns-in-Bool : goal.masked_single-returns-in-Bool
-masked_single-returns-in-Bool t c = ap (masked_as false) c.new-in-Bool.ensures ∙ sym (ap masked_of c.in-Bool.is ∙ of_bool _ _)
+masked_single-returns-in-Bool t c = c.silent-in-Bool.ensures ∙ sym (ap masked_of c.in-Bool.is ∙ of_bool _ _)
 
 pub masked_single-returns-in-Var : goal.masked_single-returns-in-Var
 masked_single-returns-in-Var t c =
-    ap (masked_as c.is_int.result) c.new-in-Var.ensures ∙ ap (λ w. masked_as w []) c.is_int.ensures ∙ sym (ap masked_of c.in-Var.is ∙ of_var c.in-Var.var)
+    c.silent-in-Var.ensures ∙ ap (λ w. masked_as w []) c.is_int.ensures ∙ sym (ap masked_of c.in-Var.is ∙ of_var c.in-Var.var)
 
 pub masked_single-returns-in_ok-cell-in-Cell : goal.masked_single-returns-in_ok-cell-in-Cell
 masked_single-returns-in_ok-cell-in-Cell t c =

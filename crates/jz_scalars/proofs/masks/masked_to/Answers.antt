@@ -7,7 +7,7 @@ use Rattle.jz_scalars.proofs.masks.masked_to.Goals as goal
 
 pub returns-in-Var : goal.returns-in-Var
 returns-in-Var c =
-    ap Some (ap (masked_as c.is_int.result) c.new.ensures ∙ ap (λ w. masked_as w []) c.is_int.ensures ∙ sym (of_var c.in-Var.var))
+    ap Some (c.silent.ensures ∙ ap (λ w. masked_as w []) c.is_int.ensures ∙ sym (of_var c.in-Var.var))
     ∙ sym (ap (λ d. option_map masked_of (as_expr d)) c.in-Var.is)
 
 pub returns-in_ok-cell-in-Cell : goal.returns-in_ok-cell-in-Cell

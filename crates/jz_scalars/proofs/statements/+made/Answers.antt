@@ -1,10 +1,10 @@
-use Rattle.std.proofs.Common.{rules, ◌∷◌, [], ◌++◌, ◌∙◌, ap, sym}
+use Rattle.std.proofs.Common.{rules, ◌∷◌, [], ◌++◌, Some, ◌∙◌, ap, sym}
+use Rattle.std.specs.Prelude.{option_map}
 use Rattle.jz_tree.specs.declared.stmt.StmtKind.TheViews.{roll-Stmt}
-use Rattle.jz_tree.specs.declared.stmt.StmtKind.TheVariants as kind
 use Rattle.jz_scalars.specs.declared.made.MadeOne.{MadeOne}
-use Rattle.jz_scalars.specs.Scalars.{made_if, made_until, made_turns, made_for, kind_made, block_made}
+use Rattle.jz_scalars.specs.Scalars.{made_if, made_while, made_for, kind_made, block_made}
 use Rattle.jz_scalars.proofs.Loops.{begun, one_more, ended_stmts, ended_steps}
-use Rattle.jz_scalars.proofs.StatementForms.{one_of, statement_is, assign_is, if_is, until_is, turns_is, for_is, mark_is}
+use Rattle.jz_scalars.proofs.StatementForms.{one_of, statement_is, assign_is, if_is, while_is, for_is, mark_is}
 use Rattle.jz_scalars.proofs.statements.+made.Goals as goal
 
 -- ---- statements in their order
@@ -23,6 +23,12 @@ made_block-returns t c =
     let ss = c.args.stmts.now in
     ap (λ (l : _). record { stmts = l; steps = c.loop-stmt.steps }) (ended_stmts ss c.loop-stmt.stmt-index c.loop-stmt.made c.loop-stmt.steps (search rules) c.loop-stmt.invariant)
     ∙ ap (λ (l : _). record { stmts = (block_made ss).stmts; steps = l }) (ended_steps ss c.loop-stmt.stmt-index c.loop-stmt.made c.loop-stmt.steps (search rules) c.loop-stmt.invariant)
+
+pub made_body-returns-in-None : goal.made_body-returns-in-None
+made_body-returns-in-None t c = sym (ap (option_map block_made) c.in-None.is)
+
+pub made_body-returns-in_ok-turn-in-Some : goal.made_body-returns-in_ok-turn-in-Some
+made_body-returns-in_ok-turn-in-Some t c = ap Some c.in_ok-turn-in-Some.ensures ∙ sym (ap (option_map block_made) c.in-Some.is)
 
 -- ---- one statement
 
@@ -44,18 +50,12 @@ made_kind-returns-in_ok-made-in-If t c =
     ∙ ap (made_if c.in-If.cond (block_made c.in-If.holds)) c.in_ok-else_part-in-If.ensures
     ∙ sym (ap kind_made c.in-If.is ∙ if_is c.in-If.cond c.in-If.holds c.in-If.other)
 
-pub made_kind-returns-in_ok-made-in-None : goal.made_kind-returns-in_ok-made-in-None
-made_kind-returns-in_ok-made-in-None t c =
-    c.in_ok-made-in-None.ensures
-    ∙ ap (λ p. made_until p c.in-While.cond) c.in_ok-before-in-None.ensures
-    ∙ sym (ap kind_made c.in-While.is ∙ ap (λ b. kind_made (kind.While c.in-While.prologue c.in-While.cond b)) c.in-None.is ∙ until_is c.in-While.prologue c.in-While.cond)
-
-pub made_kind-returns-in_ok-made-in-Some : goal.made_kind-returns-in_ok-made-in-Some
-made_kind-returns-in_ok-made-in-Some t c =
-    c.in_ok-made-in-Some.ensures
-    ∙ ap (λ p. made_turns p c.in-While.cond c.in_ok-turn-in-Some.turn) c.in_ok-before-in-Some.ensures
-    ∙ ap (made_turns (block_made c.in-While.prologue) c.in-While.cond) c.in_ok-turn-in-Some.ensures
-    ∙ sym (ap kind_made c.in-While.is ∙ ap (λ b. kind_made (kind.While c.in-While.prologue c.in-While.cond b)) c.in-Some.is ∙ turns_is c.in-While.prologue c.in-While.cond c.in-Some.body)
+pub made_kind-returns-in_ok-made-in-While : goal.made_kind-returns-in_ok-made-in-While
+made_kind-returns-in_ok-made-in-While t c =
+    c.in_ok-made-in-While.ensures
+    ∙ ap (λ p. made_while p c.in-While.cond c.in_ok-turn-in-While.turn) c.in_ok-before-in-While.ensures
+    ∙ ap (made_while (block_made c.in-While.prologue) c.in-While.cond) c.in_ok-turn-in-While.ensures
+    ∙ sym (ap kind_made c.in-While.is ∙ while_is c.in-While.prologue c.in-While.cond c.in-While.body)
 
 pub made_kind-returns-in_ok-made-in-For : goal.made_kind-returns-in_ok-made-in-For
 made_kind-returns-in_ok-made-in-For t c =
