@@ -103,61 +103,40 @@ pub fn alike(one: &Expr, other: &Expr) -> bool
 fn alike_single(one: &Expr, other: &Expr) -> bool
     ensures { result ≡ tree_eq (tree_of one.now) (tree_of other.now) }
 {
-    match one {
-        Expr::Num(n, _) => match other {
-            Expr::Num(m, _) => *n == *m,
-            _ => false,
-        },
-        Expr::Bool(a, _) => match other {
-            Expr::Bool(b, _) => same_truth(*a, *b),
-            _ => false,
-        },
-        Expr::Var(v) => match other {
-            Expr::Var(w) => same_var(v, w),
-            _ => false,
-        },
-        Expr::Cell(v, at) => match other {
-            Expr::Cell(w, other_at) => same_var(v, w) && alike(at.get(), other_at.get()),
-            _ => false,
-        },
-        Expr::Load(a) => match other {
-            Expr::Load(b) => alike(a.at.get(), b.at.get()),
-            _ => false,
-        },
-        Expr::Neg(a, _) => match other {
-            Expr::Neg(b, _) => alike(a.get(), b.get()),
-            _ => false,
-        },
-        Expr::Not(a, _) => match other {
-            Expr::Not(b, _) => alike(a.get(), b.get()),
-            _ => false,
-        },
-        Expr::Cast {
-            size,
-            signed,
-            e,
-            span: _,
-        } => match other {
+    match (one, other) {
+        (Expr::Num(n, _), Expr::Num(m, _)) => *n == *m,
+        (Expr::Bool(a, _), Expr::Bool(b, _)) => same_truth(*a, *b),
+        (Expr::Var(v), Expr::Var(w)) => same_var(v, w),
+        (Expr::Cell(v, at), Expr::Cell(w, other_at)) => {
+            same_var(v, w) && alike(at.get(), other_at.get())
+        }
+        (Expr::Load(a), Expr::Load(b)) => alike(a.at.get(), b.at.get()),
+        (Expr::Neg(a, _), Expr::Neg(b, _)) => alike(a.get(), b.get()),
+        (Expr::Not(a, _), Expr::Not(b, _)) => alike(a.get(), b.get()),
+        (
+            Expr::Cast {
+                size,
+                signed,
+                e,
+                span: _,
+            },
             Expr::Cast {
                 size: other_size,
                 signed: other_signed,
                 e: other_e,
                 span: _,
-            } => {
-                same_size(*size, *other_size)
-                    && same_truth(*signed, *other_signed)
-                    && alike(e.get(), other_e.get())
-            }
-            _ => false,
-        },
-        Expr::Bin(op, left, right, _) => match other {
-            Expr::Bin(other_op, other_left, other_right, _) => {
-                number(*op) == number(*other_op)
-                    && alike(right.get(), other_right.get())
-                    && alike(left.get(), other_left.get())
-            }
-            _ => false,
-        },
+            },
+        ) => {
+            same_size(*size, *other_size)
+                && same_truth(*signed, *other_signed)
+                && alike(e.get(), other_e.get())
+        }
+        (Expr::Bin(op, left, right, _), Expr::Bin(other_op, other_left, other_right, _)) => {
+            number(*op) == number(*other_op)
+                && alike(right.get(), other_right.get())
+                && alike(left.get(), other_left.get())
+        }
+        _ => false,
     }
 }
 
