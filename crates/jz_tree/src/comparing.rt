@@ -2,6 +2,7 @@
 //! expression.
 
 ghost use Rattle.std.specs.Prelude.{◌≡◌, ◌↔◌, IsTrue};
+ghost use Rattle.jz_tree.specs.declared.expr.Expr.{Expr};
 
 use crate::expr::{Access, BinOp, Decl, Expr, Storage, Ty, Var};
 use jz_data::Text;
@@ -106,46 +107,76 @@ impl Expr {
                 Expr::Load(b) => a.same(b),
                 _ => false,
             },
-            Expr::Neg(a, span) => match other {
-                Expr::Neg(b, other_span) => {
-                    same_spans(*span, *other_span) && a.get().same(b.get())
-                }
-                _ => false,
-            },
-            Expr::Not(a, span) => match other {
-                Expr::Not(b, other_span) => {
-                    same_spans(*span, *other_span) && a.get().same(b.get())
-                }
-                _ => false,
-            },
+            Expr::Neg(a, span) => a.get().same_negation(*span, other),
+            Expr::Not(a, span) => a.get().same_complement(*span, other),
             Expr::Cast {
                 size,
                 signed,
                 e,
                 span,
-            } => match other {
-                Expr::Cast {
-                    size: other_size,
-                    signed: other_signed,
-                    e: other_e,
-                    span: other_span,
-                } => {
-                    same_sizes(*size, *other_size)
-                        && *signed == *other_signed
-                        && same_spans(*span, *other_span)
-                        && e.get().same(other_e.get())
-                }
-                _ => false,
-            },
-            Expr::Bin(op, left, right, span) => match other {
-                Expr::Bin(other_op, other_left, other_right, other_span) => {
-                    same_operations(*op, *other_op)
-                        && same_spans(*span, *other_span)
-                        && left.get().same(other_left.get())
-                        && right.get().same(other_right.get())
-                }
-                _ => false,
-            },
+            } => e.get().same_cast(*size, *signed, *span, other),
+            Expr::Bin(op, left, right, span) => {
+                left.get().same_operation(*op, right.get(), *span, other)
+            }
+        }
+    }
+
+    /// Whether the other one is the negation of this one.
+    #[cycle(same)]
+    fn same_negation(&self, span: Span, other: &Expr) -> bool
+        ensures { IsTrue result ↔ (Expr.Neg self.now span ≡ other.now) }
+    {
+        match other {
+            Expr::Neg(e, other_span) => same_spans(span, *other_span) && self.same(e.get()),
+            _ => false,
+        }
+    }
+
+    /// Whether the other one is the complement of this one.
+    #[cycle(same)]
+    fn same_complement(&self, span: Span, other: &Expr) -> bool
+        ensures { IsTrue result ↔ (Expr.Not self.now span ≡ other.now) }
+    {
+        match other {
+            Expr::Not(e, other_span) => same_spans(span, *other_span) && self.same(e.get()),
+            _ => false,
+        }
+    }
+
+    /// Whether the other one is this cast of this one.
+    #[cycle(same)]
+    fn same_cast(&self, size: Size, signed: bool, span: Span, other: &Expr) -> bool
+        ensures { IsTrue result ↔ (Expr.Cast size signed self.now span ≡ other.now) }
+    {
+        match other {
+            Expr::Cast {
+                size: other_size,
+                signed: other_signed,
+                e,
+                span: other_span,
+            } => {
+                same_sizes(size, *other_size)
+                    && signed == *other_signed
+                    && same_spans(span, *other_span)
+                    && self.same(e.get())
+            }
+            _ => false,
+        }
+    }
+
+    /// Whether the other one is this operation on this one and a right operand.
+    #[cycle(same)]
+    fn same_operation(&self, op: BinOp, right: &Expr, span: Span, other: &Expr) -> bool
+        ensures { IsTrue result ↔ (Expr.Bin op self.now right.now span ≡ other.now) }
+    {
+        match other {
+            Expr::Bin(other_op, other_left, other_right, other_span) => {
+                same_operations(op, *other_op)
+                    && same_spans(span, *other_span)
+                    && self.same(other_left.get())
+                    && right.same(other_right.get())
+            }
+            _ => false,
         }
     }
 }

@@ -1,6 +1,7 @@
 //! Copies of statements and of what functions declare.
 
 ghost use Rattle.std.specs.Prelude.{◌≡◌, IfOk};
+ghost use Rattle.jz_tree.specs.declared.stmt.StmtKind.{StmtKind};
 
 use crate::expr::{Expr, Var};
 use crate::program::{Note, NoteValue, Param, Ret};
@@ -188,13 +189,7 @@ impl StmtKind {
                 down,
                 to,
                 body,
-            } => Ok(StmtKind::For {
-                counter: counter.copy(alloc)?,
-                from: from.copy(alloc)?,
-                down: *down,
-                to: to.copy(alloc)?,
-                body: copy_block(alloc, body)?,
-            }),
+            } => copy_for(alloc, counter, from, *down, to, body),
             StmtKind::Mark(vars) => Ok(StmtKind::Mark(copy_vars(alloc, vars)?)),
         }
     }
@@ -209,4 +204,26 @@ pub fn copy_block(alloc: Global, block: &Seq<Stmt>) -> Result<Seq<Stmt>, AllocEr
         copies.push(s.copy(alloc)?)?;
     }
     Ok(copies)
+}
+
+/// A copy of the `for` of these parts.
+#[cycle(copy_statement)]
+fn copy_for(
+    alloc: Global,
+    counter: &Var,
+    from: &Expr,
+    down: bool,
+    to: &Expr,
+    body: &Seq<Stmt>,
+) -> Result<StmtKind, AllocError>
+    ensures { IfOk result (λ copy. copy
+        ≡ StmtKind.For counter.now from.now down to.now body.now) }
+{
+    Ok(StmtKind::For {
+        counter: counter.copy(alloc)?,
+        from: from.copy(alloc)?,
+        down,
+        to: to.copy(alloc)?,
+        body: copy_block(alloc, body)?,
+    })
 }
