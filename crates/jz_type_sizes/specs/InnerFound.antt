@@ -6,11 +6,15 @@ use Rattle.jz_tree.specs.declared.expr.BinOp.{BinOp}
 use Rattle.jz_tree.specs.declared.expr.Expr.{Expr}
 use Rattle.jz_tree.specs.declared.expr.Expr.TheOpen.{Expr-F, Access-F}
 use Rattle.jz_tree.specs.declared.expr.Expr.TheFolds.{fold-Expr, fold-Access}
+use Rattle.jz_tree.specs.declared.expr.Expr.TheViews.{out-Expr, out-Access, out-Var}
+use Rattle.jz_tree.specs.declared.expr.Ty.{Ty}
 use Rattle.jz_tree.specs.declared.expr.Access.{Access}
+use Rattle.jz_tree.specs.declared.expr.Decl.{Decl}
+use Rattle.jz_tree.specs.declared.expr.Var.{Var}
 use Rattle.jz_type_names.specs.Order.{unless, earlier, earliest}
 use Rattle.jz_type_names.specs.declared.kinds.Kind.{Kind}
 use Rattle.jz_type_names.specs.declared.kinds.Declared.{Declared}
-use Rattle.jz_type_names.specs.Kinds.{Known, kind_step, declared_step}
+use Rattle.jz_type_names.specs.Kinds.{Known, known_of, kind_step, declared_step}
 use Rattle.jz_type_sizes.specs.declared.wants.Want.{Want}
 use Rattle.jz_type_sizes.specs.declared.wants.Want.TheVariants as want
 use Rattle.jz_type_sizes.specs.declared.wants.Form.{Form}
@@ -92,6 +96,23 @@ abbrev pub found_in_access : Access → Found
 found_in_access =
     fold-Access Found Kind Found Declared (Known × Span)
     found_step kind_step access_found declared_step (λ v. (v.decl, v.span))
+
+-- the place of an expression itself, where its own type is not what is wanted
+abbrev pub own_layer : Expr-F Expr Ty Access Decl Var → Want → Option Span
+own_layer (Expr-F.Num n at) w = earliest (unless (fits_int w) at)
+own_layer (Expr-F.Expr::Bool b at) w = earliest (unless (fits_truth w) at)
+own_layer (Expr-F.Var v) w = earliest (unless (fits_known (known_of v) w) (out-Var v).span)
+own_layer (Expr-F.Cell v i) w =
+    earliest (unless (fits_cell (cell_size (known_of v)) w) (out-Var v).span)
+own_layer (Expr-F.Load a) w =
+    earliest (unless (fits_access (out-Access a).size w) (out-Access a).span)
+own_layer (Expr-F.Neg a at) w = earliest (unless (not (fits_truth w)) at)
+own_layer (Expr-F.Not a at) w = None
+own_layer (Expr-F.Cast z s a at) w = earliest (unless (fits_word z w) at)
+own_layer (Expr-F.Bin o a b at) w = earliest (unless (gives (group_of o) w) at)
+
+abbrev pub own_first : Expr → Want → Option Span
+own_first e w = own_layer (out-Expr e) w
 
 -- the earliest of the places of items beside others, and of those that are more
 abbrev pub first_beside : {A B : Type 0}

@@ -1,7 +1,7 @@
 //! The first wrong place of an expression.
 
 ghost use Rattle.std.specs.Prelude.{◌≡◌};
-ghost use Rattle.jz_type_sizes.specs.InnerFound.{found_of, left_inline as left_inline_of};
+ghost use Rattle.jz_type_sizes.specs.InnerFound.{found_of, own_first, left_inline as left_inline_of};
 ghost use Rattle.jz_type_sizes.specs.Operators.{compared_size};
 ghost use Rattle.jz_type_sizes.specs.Typings.{typing};
 ghost use Rattle.jz_type_names.specs.Order.{earliest};
@@ -39,64 +39,83 @@ fn left_inline(whole: bool, a: &Expr, b: &Expr) -> bool
     inline(a)
 }
 
+/// The place of an expression whose own type is not what is wanted.
+fn own(e: &Expr, want: Want) -> Option<Span>
+    ensures { result ≡ own_first e.now want }
+{
+    match e {
+        Expr::Num(_, at) => unless(fits_int(want), *at),
+        Expr::Bool(_, at) => unless(fits_truth(want), *at),
+        Expr::Var(var) => unless(fits_known(known(var), want), var.span),
+        Expr::Cell(var, _) => unless(fits_cell(cell_size(known(var)), want), var.span),
+        Expr::Load(access) => unless(fits_access(access.size, want), access.span),
+        Expr::Neg(_, at) => unless(!fits_truth(want), *at),
+        Expr::Not(_, _) => None,
+        Expr::Cast { size, span, .. } => unless(fits_word(*size, want), *span),
+        Expr::Bin(op, _, _, at) => unless(gives(group_of(*op), want), *at),
+    }
+}
+
+/// An expression that is asked: whether it is inline, and what is wanted there.
+#[derive(Clone, Copy)]
+struct Asked<'a> {
+    expr: &'a Expr,
+    inline: bool,
+    want: Want,
+}
+
+/// An index, an address or the operand of a cast, which says by itself whether it is inline.
+fn apart(expr: &Expr, want: Want) -> Asked<'_>
+    ensures same { result.expr.now ≡ expr.now }
+    ensures inline { result.inline ≡ (found_of expr.now).form.inline }
+    ensures wanted { result.want ≡ want }
+{
+    Asked {
+        expr,
+        inline: inline(expr),
+        want,
+    }
+}
+
 /// The first place whose type is not what is wanted, by a loop down the left side.
 pub(crate) fn first(e: &Expr, e_inline: bool, want: Want) -> Option<Span>
     ensures { result ≡ (found_of e.now).first e_inline want }
 {
     let mut best = None;
-    let mut cur = e;
-    let mut whole = e_inline;
-    let mut w = want;
+    let mut cur = Asked {
+        expr: e,
+        inline: e_inline,
+        want,
+    };
     loop {
-        match cur {
-            Expr::Num(_, at) => return earlier_of(best, unless(fits_int(w), *at)),
-            Expr::Bool(_, at) => return earlier_of(best, unless(fits_truth(w), *at)),
-            Expr::Var(var) => return earlier_of(best, unless(fits_known(known(var), w), var.span)),
-            Expr::Cell(var, at) => {
-                best = earlier_of(best, unless(fits_cell(cell_size(known(var)), w), var.span));
-                w = Want::Sized(Size::S64);
-                cur = at.get();
-                whole = inline(cur);
-            }
-            Expr::Load(access) => {
-                best = earlier_of(best, unless(fits_access(access.size, w), access.span));
-                w = Want::Sized(Size::S64);
-                cur = access.at.get();
-                whole = inline(cur);
-            }
-            Expr::Neg(a, at) => {
-                best = earlier_of(best, unless(!fits_truth(w), *at));
-                if fits_truth(w) {
+        best = earlier_of(best, own(cur.expr, cur.want));
+        match cur.expr {
+            Expr::Num(_, _) => return best,
+            Expr::Bool(_, _) => return best,
+            Expr::Var(_) => return best,
+            Expr::Cell(_, at) => cur = apart(at.get(), Want::Sized(Size::S64)),
+            Expr::Load(access) => cur = apart(access.at.get(), Want::Sized(Size::S64)),
+            Expr::Neg(a, _) => {
+                if fits_truth(cur.want) {
                     return best;
                 }
-                cur = a.get();
+                cur.expr = a.get();
             }
-            Expr::Not(a, _) => cur = a.get(),
-            Expr::Cast {
-                size: z,
-                signed: _,
-                e: a,
-                span: at,
-            } => {
-                best = earlier_of(best, unless(fits_word(*z, w), *at));
-                cur = a.get();
-                whole = inline(cur);
-                w = cast_want(size(cur));
-            }
-            Expr::Bin(op, a, b, at) => {
+            Expr::Not(a, _) => cur.expr = a.get(),
+            Expr::Cast { e: a, .. } => cur = apart(a.get(), cast_want(size(a.get()))),
+            Expr::Bin(op, a, b, _) => {
                 let group = group_of(*op);
-                best = earlier_of(best, unless(gives(group, w), *at));
-                if stops(group, w) {
+                if stops(group, cur.want) {
                     return best;
                 }
                 let z = compared(group, a.get(), b.get());
-                let left = left_inline(whole, a.get(), b.get());
-                let carry = takes_carry(*op, w) && truth(b.get());
-                let right = right_of(group, carry, z, w);
+                let left = left_inline(cur.inline, a.get(), b.get());
+                let carry = takes_carry(*op, cur.want) && truth(b.get());
+                let right = right_of(group, carry, z, cur.want);
                 best = earlier_of(best, first(b.get(), inline(b.get()), right));
-                w = left_of(group, *op, whole, z, w);
-                whole = left;
-                cur = a.get();
+                cur.want = left_of(group, *op, cur.inline, z, cur.want);
+                cur.inline = left;
+                cur.expr = a.get();
             }
         }
     }
