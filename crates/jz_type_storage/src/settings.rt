@@ -77,12 +77,7 @@ fn set_in(
     ensures kept { OnOk result (counters.new.items ≡ counters.old.items) }
 {
     match kind {
-        StmtKind::Assign {
-            to,
-            op: _,
-            rhs: _,
-            cond: _,
-        } => Ok(lefts(inside, counters.as_slice(), to.as_slice())),
+        StmtKind::Assign { to, .. } => Ok(lefts(inside, counters.as_slice(), to.as_slice())),
         StmtKind::If(cond, yes, no) => {
             let within = !is_inline(cond) || inside;
             let one = set_in_all(within, counters, yes)?;
@@ -106,17 +101,9 @@ fn set_in(
             let two = set_in_all(true, counters, body)?;
             Ok(earlier_of(one, two))
         }
-        StmtKind::For {
-            counter,
-            from: _,
-            down: _,
-            to: _,
-            body,
-        } => {
-            let own = unless(
-                !is_counter(counters.as_slice(), &counter.name),
-                counter.span,
-            );
+        StmtKind::For { counter, body, .. } => {
+            let free = !is_counter(counters.as_slice(), &counter.name);
+            let own = unless(free, counter.span);
             let depth = counters.len();
             counters.push(counter.name.clone()?)?;
             let rest = set_in_all(inside, counters, body)?;

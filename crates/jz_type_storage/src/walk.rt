@@ -2,7 +2,7 @@
 
 ghost use Rattle.std.specs.Prelude.{◌≡◌, ◌++◌, IfOk, OnOk};
 ghost use Rattle.jz_type_storage.specs.Paths.{setting, setting_all, turns_of, flow_of_all};
-ghost use Rattle.jz_type_storage.specs.InnerWalks.{flow_of_kind};
+ghost use Rattle.jz_type_storage.specs.InnerWalks.{flow_of_kind, flow_of_for};
 ghost use Rattle.jz_type_storage.specs.InnerWalks.{members, Walks, HasWalked, flow_of_assigned};
 
 use crate::reads::{in_condition, in_expr, in_old, in_right};
@@ -58,7 +58,7 @@ fn set_lefts(
 struct Assigned<'a> {
     to: &'a Seq<Lval>,
     op: &'a Option<BinOp>,
-    from: &'a Rhs,
+    rhs: &'a Rhs,
     cond: &'a Option<Expr>,
 }
 
@@ -71,7 +71,7 @@ fn assign(
     ensures { let flow = flow_of_assigned it.entry in
         HasWalked result asked.now.keys flow set.old.keys set.new.keys }
 {
-    let right = in_right(alloc, asked, &*set, it.from)?;
+    let right = in_right(alloc, asked, &*set, it.rhs)?;
     let test = in_condition(alloc, asked, &*set, it.cond)?;
     let old = in_old(asked, &*set, it.op, it.cond, it.to.as_slice());
     let left = set_lefts(alloc, asked, set, it.to.as_slice())?;
@@ -138,6 +138,26 @@ fn turns(
     Ok(first)
 }
 
+/// A `for`: its bounds are read, and then its turns.
+#[cycle(walk)]
+fn walk_for(
+    alloc: Global,
+    asked: &IndexSet<Text>,
+    set: &mut IndexSet<Text>,
+    counter: &Text,
+    from: &Expr,
+    to: &Expr,
+    body: &Seq<Stmt>,
+) -> Result<Option<Span>, AllocError>
+    ensures { let flow = flow_of_for from.now to.now counter.now (flow_of_all body.now) in
+        HasWalked result asked.now.keys flow set.old.keys set.new.keys }
+{
+    let one = in_expr(alloc, asked, &*set, from)?;
+    let two = in_expr(alloc, asked, &*set, to)?;
+    let rest = turns(alloc, asked, set, counter, body)?;
+    Ok(earlier_of(one, earlier_of(two, rest)))
+}
+
 #[cycle(walk)]
 fn walk(
     alloc: Global,
@@ -149,12 +169,7 @@ fn walk(
 {
     match kind {
         StmtKind::Assign { to, op, rhs, cond } => {
-            let it = Assigned {
-                to,
-                op,
-                from: rhs,
-                cond,
-            };
+            let it = Assigned { to, op, rhs, cond };
             assign(alloc, asked, set, it)
         }
         StmtKind::If(cond, yes, no) => {
@@ -186,12 +201,7 @@ fn walk(
             down: _,
             to,
             body,
-        } => {
-            let one = in_expr(alloc, asked, &*set, from)?;
-            let two = in_expr(alloc, asked, &*set, to)?;
-            let rest = turns(alloc, asked, set, &counter.name, body)?;
-            Ok(earlier_of(one, earlier_of(two, rest)))
-        }
+        } => walk_for(alloc, asked, set, &counter.name, from, to, body),
         StmtKind::Mark(_) => Ok(None),
     }
 }
