@@ -41,10 +41,6 @@ use Rattle.jz_unrolling.proofs.FitLemmas.{ends_at, if_on, arm_on, once_on, loop_
 use Rattle.jz_unrolling.proofs.RoundLemmas.{RoundsSo, no_rounds, one_round, all_rounds}
 use Rattle.jz_unrolling.proofs.SpareLemmas.{spares_arm, spares_once, arms_less, loop_less, SparesRounds, no_rounds_spare, round_spares, spares_rounds}
 
-abbrev pub loop_piece : List Stmt → Expr → Option (List Stmt) → Span → Block → Block
-loop_piece q c body at =
-    loop (not (is_some body)) (block no_callees q done) (record { cond = c; at = at }) (body_piece no_callees body done)
-
 module _ (names : InlineNames) where
   -- ---- `if`
 

@@ -7,7 +7,7 @@ use Rattle.jz_tree.specs.declared.stmt.Stmt.{Stmt}
 use Rattle.jz_integers.specs.Integers.{KnownNumbers}
 use Rattle.jz_integers.specs.declared.constant.Constant.TheVariants as constant
 use Rattle.jz_meaning.specs.Trees.{done, choose, loop, each}
-use Rattle.jz_meaning.specs.Runs.{block}
+use Rattle.jz_meaning.specs.Runs.{block, assign_tree}
 use Rattle.jz_meaning.specs.Statements.{Operation, assign, Block}
 use Rattle.jz_interp.specs.InnerParts.{body_piece}
 pub use Rattle.jz_function_runs.specs.Statements.{no_callees}
@@ -20,6 +20,7 @@ use Rattle.jz_pass.specs.Unrolling.{Unrolls}
 use Rattle.jz_unroll.specs.Values.{InlineNames}
 use Rattle.jz_unroll.specs.Unrolling.{HasValue, IsInlineInt, KnowsLess, unrolling}
 use Rattle.jz_unrolling_values.specs.declared.known.Known.{Known}
+use Rattle.jz_unrolling.specs.declared.statements.Assignment.{Assignment}
 use Rattle.jz_unrolling.specs.declared.statements.Setting.{Setting}
 use Rattle.jz_unrolling.specs.declared.statements.Branch.{Branch}
 use Rattle.jz_unrolling.specs.declared.statements.Loop.{Loop}
@@ -33,6 +34,9 @@ use Rattle.jz_unrolling_values.specs.Parts.{IsLoopTest}
 
 -- ---- trees of statements
 
+abbrev pub assignment_of : Assignment → Span → Block → Block
+assignment_of a at = assign_tree no_callees a.to.now a.op a.rhs.now a.cond.now at
+
 abbrev pub setting_of : Setting → Span → Operation
 setting_of s at = assign s.to.now s.op s.value.now s.cond.now at
 
@@ -41,10 +45,13 @@ branch_of b at =
     choose (record { cond = b.cond.now; at = at }) (block no_callees b.yes.now done)
     (block no_callees b.no.now done)
 
+abbrev pub while_of : List Stmt → Expr → Option (List Stmt) → Span → Block → Block
+while_of prologue cond body at =
+    loop (not (is_some body)) (block no_callees prologue done)
+    (record { cond = cond; at = at }) (body_piece no_callees body done)
+
 abbrev pub turns_of : Turns → Span → Block → Block
-turns_of t at =
-    loop (not (is_some t.body.now)) (block no_callees t.prologue.now done)
-    (record { cond = t.cond.now; at = at }) (body_piece no_callees t.body.now done)
+turns_of t at = while_of t.prologue.now t.cond.now t.body.now at
 
 -- ---- what they become
 

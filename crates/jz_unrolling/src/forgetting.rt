@@ -34,12 +34,7 @@ fn forget_one(vars: &InlineVars, known: &mut Known, stmt: &Stmt) -> Result<(), A
         known.old known.new) }
 {
     match &stmt.kind {
-        StmtKind::Assign {
-            to,
-            op: _,
-            rhs,
-            cond: _,
-        } => match rhs {
+        StmtKind::Assign { to, rhs, .. } => match rhs {
             Rhs::Value(_) => {
                 forget_target(vars, known, to)?;
                 Ok(())
@@ -52,22 +47,12 @@ fn forget_one(vars: &InlineVars, known: &mut Known, stmt: &Stmt) -> Result<(), A
             forget_set(vars, known, no)?;
             Ok(())
         }
-        StmtKind::While {
-            prologue,
-            cond: _,
-            body,
-        } => {
+        StmtKind::While { prologue, body, .. } => {
             forget_set(vars, known, prologue)?;
             forget_body(vars, known, body)?;
             Ok(())
         }
-        StmtKind::For {
-            counter: _,
-            from: _,
-            down: _,
-            to: _,
-            body,
-        } => {
+        StmtKind::For { body, .. } => {
             forget_set(vars, known, body)?;
             Ok(())
         }

@@ -4,10 +4,9 @@ use Rattle.std.specs.Int.{w128}
 use Rattle.std.proofs.lemmas.Int.{to_z-of_z}
 use Rattle.jz_interp.specs.InnerParts.{body_piece}
 use Rattle.jz_tree.specs.declared.stmt.StmtKind.TheVariants as kind
-use Rattle.jz_tree.specs.declared.stmt.Rhs.TheVariants as rhs
-use Rattle.jz_meaning.specs.Runs.{block, statement_tree}
-use Rattle.jz_meaning.specs.Trees.{op, quiet, choose, each, done}
-use Rattle.jz_meaning.specs.Statements.{assign, meaningless, instruction, unset, values_between}
+use Rattle.jz_meaning.specs.Runs.{block, assign_tree, statement_tree}
+use Rattle.jz_meaning.specs.Trees.{quiet, choose, each, done}
+use Rattle.jz_meaning.specs.Statements.{unset, values_between}
 use Rattle.jz_interp.proofs.Falls.{weights_at}
 use Rattle.jz_interp.proofs.Pieces.{assign_is, if_is, while_is, for_is, mark_is}
 use Rattle.jz_change.specs.declared.change.Numbers.TheVariants.{Same}
@@ -20,9 +19,9 @@ use Rattle.jz_unrolling_values.proofs.NumberLemmas.{restored_same}
 use Rattle.jz_unrolling_values.proofs.PartLemmas.{ref_name, ref_copy}
 use Rattle.jz_unrolling_values.proofs.RefusalLemmas.{handed}
 use Rattle.jz_unrolling.specs.Refusals.{NeverFits}
-use Rattle.jz_unrolling.specs.Steps.{no_callees, Adds, AddsStep, IsTurn, branch_of, turns_of, for_of, step_list}
+use Rattle.jz_unrolling.specs.Steps.{no_callees, Adds, AddsStep, IsTurn, branch_of, while_of, turns_of, for_of, step_list}
 use Rattle.jz_unrolling.proofs.AddLemmas.{adds_none, adds_next, adds_as}
-use Rattle.jz_unrolling.proofs.FitLemmas.{at_never, call_never, instruction_never, plain_instruction, never_as}
+use Rattle.jz_unrolling.proofs.FitLemmas.{at_never, never_as}
 use Rattle.jz_unrolling.proofs.FormLemmas as form
 use Rattle.jz_unrolling.proofs.statements.+unroll.Goals as goal
 
@@ -274,13 +273,13 @@ unroll_rounds-returns-in_err-steps t c =
 
 -- ---- single statements
 
-pub unroll_one-returns-in_ok-step-in-Value : goal.unroll_one-returns-in_ok-step-in-Value
-unroll_one-returns-in_ok-step-in-Value t c =
+pub unroll_one-returns-in_ok-step-in-Assign : goal.unroll_one-returns-in_ok-step-in-Assign
+unroll_one-returns-in_ok-step-in-Assign t c =
     let names = names_in c.args.unroller.now.vars.now in
     let s = c.args.stmt.now in
     let a = c.in-Assign in
-    adds_as names (statement_tree no_callees s) (op (assign a.to a.op c.in-Value.value a.cond s.span)) c.args.known.now c.unroll_setting.new.known c.args.out.now c.unroll_setting.new.out (c.in_ok-step-in-Value.step ∷ [])
-    (assign_is no_callees s a.to a.op (rhs.Value c.in-Value.value) a.cond (a.is ∙ ap (λ r. kind.Assign a.to a.op r a.cond) c.in-Value.is)) c.in_ok-step-in-Value.ensures
+    adds_as names (statement_tree no_callees s) (assign_tree no_callees a.to a.op a.rhs a.cond s.span) c.args.known.now c.unroll_assign.new.known c.args.out.now c.unroll_assign.new.out (c.in_ok-step-in-Assign.step ∷ [])
+    (assign_is no_callees s a.to a.op a.rhs a.cond a.is) c.in_ok-step-in-Assign.ensures
 
 pub unroll_one-returns-in_ok-step-in-If : goal.unroll_one-returns-in_ok-step-in-If
 unroll_one-returns-in_ok-step-in-If t c =
@@ -295,7 +294,7 @@ unroll_one-returns-in_ok-step-in-While t c =
     let names = names_in c.args.unroller.now.vars.now in
     let s = c.args.stmt.now in
     let w = c.in-While in
-    adds_as names (statement_tree no_callees s) (form.loop_piece w.prologue w.cond w.body s.span) c.args.known.now c.unroll_while.new.known c.args.out.now c.unroll_while.new.out (c.in_ok-step-in-While.step ∷ [])
+    adds_as names (statement_tree no_callees s) (while_of w.prologue w.cond w.body s.span) c.args.known.now c.unroll_while.new.known c.args.out.now c.unroll_while.new.out (c.in_ok-step-in-While.step ∷ [])
     (while_is no_callees s w.prologue w.cond w.body w.is) c.in_ok-step-in-While.ensures
 
 pub unroll_one-returns-in_ok-unroll_mark-in-Mark : goal.unroll_one-returns-in_ok-unroll_mark-in-Mark
@@ -320,35 +319,13 @@ unroll_one-returns-in_ok-step-in-For t c =
     (c.in_ok-step-in-For.ensures f.from f.to s.span
     (record { same = refl; way = refl; inline = subst (λ v. IsInlineInt names v) (sym has.same) has.inline; first = has.first; bound = has.bound }))
 
-pub unroll_one-returns-in_err-step-in-Value : goal.unroll_one-returns-in_err-step-in-Value
-unroll_one-returns-in_err-step-in-Value t c =
+pub unroll_one-returns-in_err-step-in-Assign : goal.unroll_one-returns-in_err-step-in-Assign
+unroll_one-returns-in_err-step-in-Assign t c =
     let names = names_in c.args.unroller.now.vars.now in
     let s = c.args.stmt.now in
     let a = c.in-Assign in
-    handed _ _ c.from_residual.result c.in_err-step-in-Value.field-0.0 c.from_residual.ensures.1 c.in_err-step-in-Value.ensures
-    (λ fails. never_as names (statement_tree no_callees s) (op (assign a.to a.op c.in-Value.value a.cond s.span)) (numbers_in c.args.known.now) (assign_is no_callees s a.to a.op (rhs.Value c.in-Value.value) a.cond (a.is ∙ ap (λ r. kind.Assign a.to a.op r a.cond) c.in-Value.is)) fails)
-
-pub unroll_one-returns-in-Call : goal.unroll_one-returns-in-Call
-unroll_one-returns-in-Call t c =
-    let names = names_in c.args.unroller.now.vars.now in
-    let s = c.args.stmt.now in
-    let a = c.in-Assign in
-    let k = c.in-Call in
-    never_as names (statement_tree no_callees s) (op (meaningless k.at)) (numbers_in c.args.known.now) (assign_is no_callees s a.to a.op (rhs.Call k.field-0 k.field-1 k.at) a.cond (a.is ∙ ap (λ r. kind.Assign a.to a.op r a.cond) k.is)) (call_never names k.at (numbers_in c.args.known.now))
-
-pub unroll_one-returns-in_err-step-in-Intrinsic : goal.unroll_one-returns-in_err-step-in-Intrinsic
-unroll_one-returns-in_err-step-in-Intrinsic t c =
-    let names = names_in c.args.unroller.now.vars.now in
-    let e = numbers_in c.args.known.now in
-    let s = c.args.stmt.now in
-    let a = c.in-Assign in
-    let i = c.in-Intrinsic in
-    handed _ _ c.from_residual-in_err-step-in-Intrinsic.result c.in_err-step-in-Intrinsic.field-0.0 c.from_residual-in_err-step-in-Intrinsic.ensures.1 c.in_err-step-in-Intrinsic.ensures
-    (λ fails.
-    never_as names (statement_tree no_callees s) (op (instruction a.to i.name i.args i.at)) e
-    (assign_is no_callees s a.to a.op (rhs.Intrinsic i.name i.args i.at) a.cond (a.is ∙ ap (λ r. kind.Assign a.to a.op r a.cond) i.is)
-    ∙ plain_instruction a.to a.op i.name i.args a.cond i.at (sym c.is_some.ensures ∙ c.if-is_some.false) (sym c.is_some-else-is_some.ensures ∙ c.if-is_some-2.false))
-    (instruction_never names a.to i.name i.args i.at e fails))
+    handed _ _ c.from_residual.result c.in_err-step-in-Assign.field-0.0 c.from_residual.ensures.1 c.in_err-step-in-Assign.ensures
+    (λ fails. never_as names (statement_tree no_callees s) (assign_tree no_callees a.to a.op a.rhs a.cond s.span) (numbers_in c.args.known.now) (assign_is no_callees s a.to a.op a.rhs a.cond a.is) fails)
 
 pub unroll_one-returns-in_err-step-in-If : goal.unroll_one-returns-in_err-step-in-If
 unroll_one-returns-in_err-step-in-If t c =
@@ -364,7 +341,7 @@ unroll_one-returns-in_err-step-in-While t c =
     let s = c.args.stmt.now in
     let w = c.in-While in
     handed _ _ c.from_residual-in_err-step-in-While.result c.in_err-step-in-While.field-0.0 c.from_residual-in_err-step-in-While.ensures.1 c.in_err-step-in-While.ensures
-    (λ fails. never_as names (statement_tree no_callees s) (form.loop_piece w.prologue w.cond w.body s.span) (numbers_in c.args.known.now) (while_is no_callees s w.prologue w.cond w.body w.is) fails)
+    (λ fails. never_as names (statement_tree no_callees s) (while_of w.prologue w.cond w.body s.span) (numbers_in c.args.known.now) (while_is no_callees s w.prologue w.cond w.body w.is) fails)
 
 pub unroll_one-returns-in_err-rounds-in-For : goal.unroll_one-returns-in_err-rounds-in-For
 unroll_one-returns-in_err-rounds-in-For t c =

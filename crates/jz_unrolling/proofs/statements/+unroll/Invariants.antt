@@ -23,7 +23,7 @@ abbrev pub decreases-unroll_apart : goal.decreases-unroll_apart
 decreases-unroll_apart l = 8 * weights l.stmts.now + 2
 
 abbrev pub decreases-unroll_while : goal.decreases-unroll_while
-decreases-unroll_while l = 8 * (weights l.turns.now.prologue.now + body_weight l.turns.now.body.now) + 6
+decreases-unroll_while l = 8 * (weights l.prologue.now + body_weight l.body.now) + 6
 
 abbrev pub decreases-unroll_once : goal.decreases-unroll_once
 decreases-unroll_once l = 8 * (weights l.turns.now.prologue.now + body_weight l.turns.now.body.now) + 2
