@@ -22,7 +22,7 @@ use crate::inline_vars::InlineVars;
 use crate::known::Known;
 use crate::parts::{Part, join};
 use jz_integers::{Constant, constant_of, minus, opposite};
-use jz_tree::{Access, BinOp, Boxed, Expr, Failure, Lval, Seq, Span, Var};
+use jz_tree::{Access, BinOp, Boxed, Expr, Failure, Lval, Seq, Size, Span, Var};
 use jz_type_names::{is_inline_int, known, span_of};
 use std::alloc::{AllocError, Global};
 
@@ -125,12 +125,7 @@ fn single_part(values: &Values<'_>, expr: &Expr) -> Result<Part, Failure<Span>>
             span,
         } => {
             let e = boxed_with_values(values, e)?;
-            Ok(Part::Plain(Expr::Cast {
-                size: *size,
-                signed: *signed,
-                e,
-                span: *span,
-            }))
+            Ok(converted_part(*size, *signed, e, *span))
         }
         Expr::Bin(_, _, _, _) => unreachable!(),
     }
@@ -222,6 +217,19 @@ fn inverted_part(alloc: Global, operand: Part, span: Span) -> Result<Part, Alloc
             Ok(Part::Plain(Expr::Not(e, span)))
         }
     }
+}
+
+/// A cast, which is never inline.
+fn converted_part(size: Size, signed: bool, inner: Boxed<Expr>, span: Span) -> Part
+    ensures { (names : InlineNames) (e : KnownNumbers) (x : Tree) → IsValued names e x inner
+        → IsPart names e (expr.Cast size signed x span) result }
+{
+    Part::Plain(Expr::Cast {
+        size,
+        signed,
+        e: inner,
+        span,
+    })
 }
 
 /// An expression whose inline parts are their values. Refused where one has none.

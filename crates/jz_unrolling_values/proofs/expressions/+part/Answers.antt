@@ -7,7 +7,7 @@ use Rattle.jz_integers.specs.declared.constant.Constant.TheVariants as constant
 use Rattle.jz_unrolling_values.specs.InlineNames.{names_in}
 use Rattle.jz_unrolling_values.specs.Numbers.{numbers_in}
 use Rattle.jz_unrolling_values.specs.Parts.{IsValued, IsInlinePart, IsPlainPart, IsPart}
-use Rattle.jz_unrolling_values.proofs.PartLemmas.{first_within, last_within, begins, goes_on, access_values, access_known, num_part, bool_part, cell_part, load_part, cast_part}
+use Rattle.jz_unrolling_values.proofs.PartLemmas.{first_within, last_within, begins, goes_on, access_values, access_known, num_part, bool_part, cell_part, load_part}
 use Rattle.jz_unrolling_values.proofs.RefusalLemmas.{handed, side_no_part, way_no_part, right_no_part, cell_no_array, cell_no_index, load_no_part, neg_no_part, not_no_part, cast_no_part, no_values}
 use Rattle.jz_unrolling_values.specs.Refusals.{is_part}
 use Rattle.jz_unrolling_values.proofs.expressions.+part.Goals as goal
@@ -109,8 +109,8 @@ single_part-returns-in_ok-e-in-Cast t c =
     let e = numbers_in c.args.values.now.known.now in
     let i = c.in-Cast in
     let inner = c.in_ok-e-in-Cast in
-    subst (λ x. IsPlainPart names e x (expr.Cast i.size i.signed inner.e i.span)) (sym i.is)
-    (cast_part names e i.size i.signed i.e inner.e i.span inner.ensures)
+    subst (λ x. IsPart names e x c.converted_part.result) (sym i.is)
+    (c.converted_part.ensures names e i.e inner.ensures)
 
 -- ---- refusals
 
