@@ -57,6 +57,10 @@ fn number(number: i32) -> Part {
     Part::Number(number as i64)
 }
 
+fn operand(operand: Operand) -> Part {
+    Part::Operand(operand)
+}
+
 fn two(first: Part, second: Part) -> [Part; 4] {
     [first, second, Part::Absent, Part::Absent]
 }
@@ -97,7 +101,7 @@ fn name(insn: &Insn) -> &'static str {
 fn parts(insn: &Insn) -> [Part; 4] {
     match *insn {
         Insn::Alu(_, size, to, from) | Insn::Mov(size, to, from) => {
-            three(size_word(size), Part::Operand(to), Part::Operand(from))
+            three(size_word(size), operand(to), operand(from))
         }
         Insn::Extend {
             to,
@@ -105,36 +109,21 @@ fn parts(insn: &Insn) -> [Part; 4] {
             reg,
             rm,
             ..
-        } => four(
-            size_word(to),
-            size_word(from),
-            reg_word(reg),
-            Part::Operand(rm),
-        ),
+        } => four(size_word(to), size_word(from), reg_word(reg), operand(rm)),
         Insn::Lea(reg, mem) => two(reg_word(reg), Part::Mem(mem)),
-        Insn::One(_, size, rm) | Insn::Wide(_, size, rm) => {
-            two(size_word(size), Part::Operand(rm))
-        }
-        Insn::Imul(size, reg, rm) => three(size_word(size), reg_word(reg), Part::Operand(rm)),
+        Insn::One(_, size, rm) | Insn::Wide(_, size, rm) => two(size_word(size), operand(rm)),
+        Insn::Imul(size, reg, rm) => three(size_word(size), reg_word(reg), operand(rm)),
         Insn::ImulBy(size, reg, rm, by) => {
-            four(
-                size_word(size),
-                reg_word(reg),
-                Part::Operand(rm),
-                number(by),
-            )
+            four(size_word(size), reg_word(reg), operand(rm), number(by))
         }
         Insn::Shift(_, size, rm, count) => {
-            three(size_word(size), Part::Operand(rm), Part::Count(count))
+            three(size_word(size), operand(rm), Part::Count(count))
         }
         Insn::Bswap(size, reg) => two(size_word(size), reg_word(reg)),
-        Insn::Set(cond, rm) => two(cond_word(cond), Part::Operand(rm)),
-        Insn::Cmov(cond, size, reg, rm) => four(
-            cond_word(cond),
-            size_word(size),
-            reg_word(reg),
-            Part::Operand(rm),
-        ),
+        Insn::Set(cond, rm) => two(cond_word(cond), operand(rm)),
+        Insn::Cmov(cond, size, reg, rm) => {
+            four(cond_word(cond), size_word(size), reg_word(reg), operand(rm))
+        }
         Insn::Jcc(cond, width, disp) => three(cond_word(cond), width_word(width), number(disp)),
         Insn::Jmp(width, disp) => two(width_word(width), number(disp)),
         Insn::Call(disp) => two(number(disp), Part::Absent),
