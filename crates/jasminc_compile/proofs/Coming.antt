@@ -3,7 +3,7 @@ use Rattle.std.proofs.Common.{◌≡◌, List, [], ◌∷◌, ◌++◌, append_a
 use Rattle.std.specs.List.{AllZip}
 use Rattle.jz_tree.specs.declared.program.Fun.{Fun}
 use Rattle.jz_tree.specs.declared.program.Program.{Program}
-use Rattle.jz_expansion.proofs.Followed.{same_at}
+use Rattle.jz_verdict.proofs.Followed.{same_at}
 use Rattle.jz_listing.specs.declared.compiled.Compiled.{Compiled}
 use Rattle.jz_compiled.specs.Correct.{AreCorrect}
 use Rattle.jz_verdict.specs.Said.{IsSaid}

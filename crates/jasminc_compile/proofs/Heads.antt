@@ -12,7 +12,7 @@ use Rattle.jz_annotations.specs.declared.precondition.Pre.{Pre}
 use Rattle.jz_type_names.specs.Scopes.{variable_named, variables_of}
 use Rattle.jz_preconditions.specs.Stating.{stated_in, pres_of, preconditions_of}
 use Rattle.jz_change.specs.Changes.{Change}
-use Rattle.jz_expansion.specs.Expansions.{IsExpansion}
+use Rattle.jz_verdict.specs.Expansions.{IsExpansion}
 use Rattle.jz_one_unrolling.proofs.One.{one_unrolling}
 use Rattle.jz_verdict.proofs.Expansions.{expansions_same}
 use Rattle.jz_declared.specs.Declared.{held_for, held_of}
@@ -26,8 +26,8 @@ use Rattle.jz_homes.specs.Homes.{Homes}
 use Rattle.jz_every_row.specs.Bodies.{IsLowered}
 use Rattle.jz_lowered.specs.Functions.{ArePassed, AreKinds}
 use Rattle.jz_operands.specs.TableHomes.{homes_by}
-use Rattle.jz_lowering.specs.declared.functions.LoweredFun.{LoweredFun}
-use Rattle.jz_lowering.specs.Functions.{plain_body, homes_for, IsFunctionLowered}
+use Rattle.jz_no_secrets.specs.LoweredFun.{LoweredFun}
+use Rattle.jz_no_secrets.specs.Functions.{plain_body, homes_for, IsFunctionLowered}
 use Rattle.jz_code.specs.declared.code.NoCode.{NoCode}
 use Rattle.jz_code.specs.declared.code.NoCode.TheVariants as no
 use Rattle.jz_whole_pipeline.specs.Refused.{stack_end, IsCodeless}

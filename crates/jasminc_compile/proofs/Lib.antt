@@ -5,5 +5,5 @@ pub mod Coming
 pub mod Choosing
 pub mod Telling
 pub mod FirstCauses
-pub use Rattle.jz_expansion.proofs.Followed
+pub use Rattle.jz_verdict.proofs.Followed
 pub use Rattle.jasminc_check.proofs.Typing

@@ -15,10 +15,10 @@ use Rattle.jz_preconditions.specs.Stating.{preconditions_of}
 use Rattle.jz_change.specs.Views.{change_of}
 use Rattle.jz_asked.specs.declared.alarms.Alarm.{Alarm}
 use Rattle.jz_asked.specs.Asked.{alarm_of}
-use Rattle.jz_first_alarm.specs.FirstAlarms.{HasFirstAlarm}
-use Rattle.jz_expansion.specs.Expanding.{IsExpandedAt}
-use Rattle.jz_expansion.specs.declared.expanded.Expanded.{Expanded}
-use Rattle.jz_expansion.proofs.Followed.{same_at, contains_at}
+use Rattle.jasminc_check.specs.FirstAlarms.{HasFirstAlarm}
+use Rattle.jz_verdict.specs.Expanding.{IsExpandedAt}
+use Rattle.jz_verdict.specs.Expanded.{Expanded}
+use Rattle.jz_verdict.proofs.Followed.{same_at, contains_at}
 use Rattle.jz_whole_pipeline.specs.Texts.{IsExpandedFrom, IsOfText}
 use Rattle.jz_whole_pipeline.specs.Safe.{Safe}
 use Rattle.jasminc_check.specs.Ready.{IsReadyAt}

@@ -5,8 +5,8 @@ use Rattle.jz_tree.specs.declared.program.Fun.{Fun}
 use Rattle.jz_tree.specs.declared.program.Program.{Program}
 use Rattle.jz_alloc.specs.declared.placing.NoPlace as numbered
 use Rattle.jz_change.specs.Views.{change_of}
-use Rattle.jz_expansion.specs.Expanding.{IsExpandedAt}
-use Rattle.jz_expansion.specs.declared.expanded.Expanded.{Expanded}
+use Rattle.jz_verdict.specs.Expanding.{IsExpandedAt}
+use Rattle.jz_verdict.specs.Expanded.{Expanded}
 use Rattle.jz_listing.specs.declared.compiled.Compiled.{Compiled}
 use Rattle.jz_whole_pipeline.specs.NotCompiled.{NotCompiled}
 use Rattle.jz_whole_pipeline.specs.Made.{IsMadeOf}

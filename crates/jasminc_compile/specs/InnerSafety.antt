@@ -4,7 +4,7 @@ use Rattle.jz_tree.specs.declared.program.Fun.{Fun}
 use Rattle.jz_tree.specs.declared.program.Program.{Program}
 use Rattle.jz_type_rows.specs.Exports.{is_exported}
 use Rattle.jz_preconditions.specs.Stating.{preconditions_of}
-use Rattle.jz_first_alarm.specs.FirstAlarms.{HasFirstAlarm}
+use Rattle.jasminc_check.specs.FirstAlarms.{HasFirstAlarm}
 use Rattle.jz_whole_pipeline.specs.Texts.{IsExpandedFrom}
 use Rattle.jz_whole_pipeline.specs.Safe.{Safe}
 use Rattle.jasminc_compile.specs.declared.safety.SafeFun.{SafeFun}

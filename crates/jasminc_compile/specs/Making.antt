@@ -6,7 +6,7 @@ use Rattle.jz_tree.specs.declared.program.Fun.{Fun}
 use Rattle.jz_tree.specs.declared.program.Program.{Program}
 use Rattle.jz_preconditions.specs.Stating.{preconditions_of}
 use Rattle.jz_change.specs.Changes.{Change}
-use Rattle.jz_first_alarm.specs.FirstAlarms.{HasFirstAlarm}
+use Rattle.jasminc_check.specs.FirstAlarms.{HasFirstAlarm}
 use Rattle.jz_listing.specs.declared.compiled.Compiled.{Compiled}
 use Rattle.jz_compiled.specs.Correct.{IsCorrect}
 use Rattle.jz_whole_pipeline.specs.Made.{IsMadeOf}

@@ -3,7 +3,7 @@ use Rattle.std.specs.Prelude.{◌≡◌, ◌<◌, ℕ, List}
 use Rattle.jz_tree.specs.declared.program.Fun.{Fun}
 use Rattle.jz_tree.specs.declared.program.Program.{Program}
 use Rattle.jz_change.specs.Changes.{Change}
-use Rattle.jz_expansion.specs.Expansions.{IsExpansion}
+use Rattle.jz_verdict.specs.Expansions.{IsExpansion}
 use Rattle.jz_alloc.specs.declared.placing.NoPlace as numbered
 use Rattle.jz_code.specs.declared.code.NoCode.TheVariants as no
 use Rattle.jz_whole_pipeline.specs.Refused.{stack_end, IsCodeless}

@@ -6,9 +6,9 @@ use Rattle.jz_tree.specs.declared.program.Program.{Program}
 use Rattle.jz_type_rows.specs.Exports.{is_exported}
 use Rattle.jz_change.specs.Views.{change_of}
 use Rattle.jz_labels.specs.Required.{Breach}
-use Rattle.jz_expansion.specs.Expanding.{IsExpandedAt}
-use Rattle.jz_expansion.specs.declared.expanded.Expanded.{Expanded}
-use Rattle.jz_expansion.proofs.Followed.{same_at}
+use Rattle.jasminc_expansions.specs.ExpansionExpanding.{IsExpandedAt}
+use Rattle.jasminc_expansions.specs.Expanded.{Expanded}
+use Rattle.jasminc_expansions.proofs.Followed.{same_at}
 use Rattle.jz_ct.specs.declared.judging.Ct.{Ct}
 use Rattle.jz_ct.specs.declared.judging.Ct.TheVariants as told
 use Rattle.jz_ct.specs.Told.{told_by, IsConstantTime, HasFirstBreach}

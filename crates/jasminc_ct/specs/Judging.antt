@@ -5,7 +5,7 @@ use Rattle.jz_tree.specs.declared.program.Fun.{Fun}
 use Rattle.jz_tree.specs.declared.program.Program.{Program}
 use Rattle.jz_type_rows.specs.Exports.{is_exported}
 use Rattle.jz_change.specs.Changes.{Change}
-use Rattle.jz_expansion.specs.Expansions.{IsExpansion}
+use Rattle.jasminc_expansions.specs.Expansions.{IsExpansion}
 use Rattle.jz_labels.specs.Required.{Breach}
 use Rattle.jz_ct.specs.Told.{breach_of, IsConstantTime, HasFirstBreach}
 use Rattle.jasminc_ct.specs.declared.breaches.FunBreach.{FunBreach}

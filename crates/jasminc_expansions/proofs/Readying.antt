@@ -11,7 +11,7 @@ use Rattle.jz_limits.specs.declared.limit.Limit.{Limit}
 use Rattle.jz_first_limit.specs.FirstLimits.{IsWithinLimits}
 use Rattle.jz_first_limit.proofs.Answering.{one_answer}
 use Rattle.jz_change.specs.Views.{change_of}
-use Rattle.jz_inlining.specs.Inlined.{IsExport}
+use Rattle.jz_expansion.specs.Inlined.{IsExport}
 use Rattle.jz_expansion.specs.Expansions.{IsExpansion}
 use Rattle.jz_expansion.specs.Expanding.{IsExpandedAt, PassesAt}
 use Rattle.jz_expansion.specs.declared.expanded.Expanded.{Expanded}

@@ -7,7 +7,7 @@ use Rattle.jz_listing.specs.declared.compiled.Compiled.{Compiled}
 use Rattle.jasminc_words.specs.Wanted.{Called, Wanted, compile, exec, interp, leak, disasm, check, ct, gen, selfrun}
 use Rattle.jasminc_runs.specs.declared.telling.Ran.{Ran}
 use Rattle.jasminc_runs.specs.declared.telling.Ran.TheVariants as ran
-use Rattle.jasminc_leaks.proofs.Showing.{matches_from}
+use Rattle.jasminc_selfrun.proofs.Showing.{matches_from}
 use Rattle.jasminc_selfrun.specs.Answers as called
 use Rattle.jasminc_top.specs.declared.refusal.Status.{Status}
 use Rattle.jasminc_top.specs.declared.refusal.Status.TheVariants as status

@@ -36,7 +36,7 @@ use Rattle.jz_fact_laws.proofs.Fitting.{yields_then}
 use Rattle.jz_fact_laws.proofs.Setting.{same_key-true}
 use Rattle.jz_fact_laws.proofs.Holding.{assignments_hold}
 use Rattle.jz_fact_laws.proofs.Conditional.{assign_if_ok}
-use Rattle.jz_alarms.specs.Conditions.{asks, asks_expr, asks_if, asks_old, asks_assign, asks_operation}
+use Rattle.jz_unstuck.specs.Conditions.{asks, asks_expr, asks_if, asks_old, asks_assign, asks_operation}
 use Rattle.jz_standing.specs.Typing.{whole, sizes_of, NoNumbers, IsScalar, IsWord, IsAnswer, IsWordAssigned, HasAnswer}
 use Rattle.jz_standing.specs.Standing.{is_of_cell, AreValid, Stands}
 use Rattle.jz_standing.proofs.Held.{holds}

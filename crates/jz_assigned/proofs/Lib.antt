@@ -6,3 +6,5 @@ pub use Rattle.jz_unstuck.proofs.Firm
 pub use Rattle.jz_unstuck.proofs.Going
 pub use Rattle.jz_unstuck.proofs.Marks
 pub use Rattle.jz_unstuck.proofs.Sums
+pub use Rattle.jz_unstuck.proofs.Apart
+pub use Rattle.jz_unstuck.proofs.Totals

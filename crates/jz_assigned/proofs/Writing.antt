@@ -33,7 +33,7 @@ use Rattle.jz_facts.specs.Facts.{Facts, Given}
 use Rattle.jz_facts.specs.Intervals.{size_or_64, interval, is_multiple}
 use Rattle.jz_fact_laws.specs.Saying.{Yields, In, is_number}
 use Rattle.jz_fact_laws.proofs.Ranges.{Good, term_ok}
-use Rattle.jz_alarms.specs.Conditions.{named, memory, unless, or_else, readings, sum_of, in_some_reading, bounds_of, asks, asks_access, asks_expr, asks_left, asks_lefts, asks_assign, asks_operation}
+use Rattle.jz_unstuck.specs.Conditions.{named, memory, unless, or_else, readings, sum_of, in_some_reading, bounds_of, asks, asks_access, asks_expr, asks_left, asks_lefts, asks_assign, asks_operation}
 use Rattle.jz_standing.specs.Typing.{sizes_of, NoNumbers, IsArray, IsSum, IsWord, IsCellAssigned, IsStored}
 use Rattle.jz_standing.specs.Standing.{Stands}
 use Rattle.jz_standing.proofs.Held.{holds}

@@ -12,7 +12,7 @@ use Rattle.jz_meaning.specs.Statements.{assign}
 use Rattle.jz_run_laws.specs.Kinds.{Kinds}
 use Rattle.jz_facts.specs.Holding.{does}
 use Rattle.jz_fact_laws.specs.Saying.{Yields}
-use Rattle.jz_alarms.specs.Conditions.{asks_operation}
+use Rattle.jz_unstuck.specs.Conditions.{asks_operation}
 use Rattle.jz_standing.specs.Typing.{IsWordAssigned, IsCellAssigned, IsStored, HasAnswer}
 use Rattle.jz_standing.specs.ValueLaws.{Where}
 use Rattle.jz_unstuck.specs.MetLaws.{IsOn}

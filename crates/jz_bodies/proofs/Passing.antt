@@ -27,13 +27,13 @@ use Rattle.jz_tree.specs.declared.program.Fun.{Fun}
 use Rattle.jz_tree.specs.declared.program.Param.{Param}
 use Rattle.jz_tree.specs.declared.program.Ret.{Ret}
 use Rattle.jz_tree.specs.declared.program.Program.{Program}
-use Rattle.jz_select.specs.Operands.{dest_of}
-use Rattle.jz_select.specs.Rows.{is_rmi}
+use Rattle.jz_row_laws.specs.Operands.{dest_of}
+use Rattle.jz_row_laws.specs.Rows.{is_rmi}
 use Rattle.jz_type_names.specs.declared.kinds.Kind as known
 use Rattle.jz_type_names.specs.declared.kinds.Kind.TheVariants as scope
 use Rattle.jz_type_names.specs.Kinds.{Known, declared_of, known_of, kind_of, is_array_kind, is_word_kind, is_word, same_storage, same_kind, same_size, written_length, whole_array}
 use Rattle.jz_type_names.specs.Kinds as names
-use Rattle.jz_type_storage.specs.Declarations.{may_pass, may_return, is_passed, is_returned}
+use Rattle.jz_run_laws.specs.Declarations.{may_pass, may_return, is_passed, is_returned}
 use Rattle.jz_type_sizes.specs.declared.operators.Group.{Group}
 use Rattle.jz_type_sizes.specs.declared.operators.Group.TheVariants as group
 use Rattle.jz_type_sizes.specs.Operators.{group_of}

@@ -28,18 +28,18 @@ use Rattle.jz_tree.specs.declared.program.Ret.{Ret}
 use Rattle.jz_tree.specs.declared.program.Program.{Program}
 use Rattle.jz_tree.specs.declared.intrinsic.Instance.{Instance}
 use Rattle.jz_tree.specs.Spellings.{spelled}
-use Rattle.jz_select.specs.Places.{Answers}
-use Rattle.jz_select.specs.declared.shape.Shape as rowed
-use Rattle.jz_select.specs.declared.shape.Shape.TheVariants as shapes
-use Rattle.jz_select.specs.Shapes.{conditional, whichever, kind_layer, named_shape}
+use Rattle.jz_row_laws.specs.Places.{Answers}
+use Rattle.jz_row_laws.specs.Shape as rowed
+use Rattle.jz_row_laws.specs.Shape.TheVariants as shapes
+use Rattle.jz_row_laws.specs.Shapes.{conditional, whichever, kind_layer, named_shape}
 use Rattle.jz_type_names.specs.declared.kinds.Kind as known
 use Rattle.jz_type_names.specs.declared.kinds.Kind.TheVariants as scope
 use Rattle.jz_type_names.specs.Kinds.{declared_of, known_of, kind_of, is_inline_int, inline_int, is_word_kind, is_register_word, is_array_kind, same_storage, same_kind, array_of, whole_array}
 use Rattle.jz_type_names.specs.Scopes.{variables_of, constant_place, function_named}
 use Rattle.jz_type_names.specs.Parts.{Layer, layer_of, statements_of, exprs_of, set_by, left_exprs, right_exprs, left_vars, called_by}
 use Rattle.jz_type_names.proofs.Empty.{both, passed, all_empty, no_member, one_not}
-use Rattle.jz_type_storage.specs.Declarations.{is_kept, is_passed, is_returned, unkept, unkept_by, unkept_param, unkept_ret, unkept_in, wrongly_kept}
-use Rattle.jz_type_storage.specs.Settings.{wrongly_set}
+use Rattle.jz_run_laws.specs.Declarations.{is_kept, is_passed, is_returned, unkept, unkept_by, unkept_param, unkept_ret, unkept_in, wrongly_kept}
+use Rattle.jz_run_laws.specs.Settings.{wrongly_set}
 use Rattle.jz_type_sizes.specs.Signatures.{instance_signature}
 use Rattle.jz_type_sizes.specs.declared.signatures.Role.{Role}
 use Rattle.jz_type_sizes.specs.declared.signatures.Role.TheVariants as role
@@ -52,9 +52,9 @@ use Rattle.jz_run_laws.specs.Copies.{place_of_array, array_arg, array_left, give
 use Rattle.jz_run_laws.specs.Exports.{is_exported, has_shape, is_word_param, is_word_result, misshapen_places}
 use Rattle.jz_run_laws.specs.Matching.{needs_row}
 use Rattle.jz_run_laws.specs.Programs.{of_statement, in_body, in_functions, in_statements}
-use Rattle.jz_resolve.specs.Numbering.{values_of}
-use Rattle.jz_resolve.specs.Numbering as numbering
-use Rattle.jz_resolve.specs.Programs.{counted_ret, resolved_whole, resolved_program}
+use Rattle.jz_run_laws.specs.Numbering.{values_of}
+use Rattle.jz_run_laws.specs.Numbering as numbering
+use Rattle.jz_run_laws.specs.ResolvePrograms.{counted_ret, resolved_whole, resolved_program}
 use Rattle.jz_judgement.specs.Places.{integer, truth, unsized}
 use Rattle.jz_judgement.specs.WellTyped as typed
 use Rattle.jz_judgement.specs.WellTyped.{InPairs, Passed, Given, Returned, Calls, Instructs, Output, Operand, role_place, RightSide, WellTyped, WellTypedIn, IsWellTyped}

@@ -34,7 +34,7 @@ use Rattle.jz_correct.specs.Starts.{AreOfSizes, AreInRegisters, IsIn, IsInOne, f
 use Rattle.jz_correct.specs.Ends.{EndsAfter}
 use Rattle.jz_correct.specs.Agreement.{Agrees, NeverFaults, EndsWith}
 use Rattle.jz_correct.proofs.SlotLoads.{loads}
-use Rattle.x64_assemble.specs.CodeRuns.{EndsAt, entered_at}
+use Rattle.jz_code.specs.CodeRuns.{EndsAt, entered_at}
 use Rattle.jz_code.specs.Laying.{frame_of}
 use Rattle.jz_code.specs.declared.code.MachineCode.{MachineCode}
 use Rattle.jz_codable.specs.Ready.{IsReady}

@@ -16,7 +16,7 @@ use Rattle.jz_preconditions.specs.Stating.{stated_in, pres_of, preconditions_of}
 use Rattle.jz_function_runs.specs.FunctionRuns.{plain_body}
 use Rattle.jz_first_alarm.specs.FirstAlarms.{HasFirstAlarm}
 use Rattle.jz_never_stuck.specs.Safety.{HasNoAlarm, SharesHead}
-use Rattle.jz_expanded_heads.proofs.Heads.{heads_are_fine}
+use Rattle.jz_safe.proofs.Heads.{heads_are_fine}
 use Rattle.jz_safe.proofs.Alarms.{no_alarm}
 use Rattle.jz_safe.proofs.Whole.{source_never}
 use Rattle.jasminc_expansions.proofs.Typing.{text_text}

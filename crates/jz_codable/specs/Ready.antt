@@ -4,7 +4,7 @@ use Rattle.std.specs.List.{AllByRecursion}
 use Rattle.jz_ir.specs.Places.{IsWithin}
 use Rattle.jz_runs.specs.Trees.{Tree, done, op, quiet, choose, loop, each, call}
 use Rattle.jz_encodable.specs.Encodable.{IsEncodable}
-use Rattle.jz_placing.specs.Variables.{Asked, always, asks, Body}
+use Rattle.jz_place.specs.Variables.{Asked, always, asks, Body}
 use Rattle.jz_place.specs.declared.tree.Ir.{Ir}
 use Rattle.jz_place.specs.Bodies.{body_of, seen_code}
 use Rattle.jz_place.specs.Sorts.{AreSorted}

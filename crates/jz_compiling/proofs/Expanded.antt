@@ -28,13 +28,13 @@ use Rattle.jz_function_runs.specs.FunctionRuns.{plain_body}
 use Rattle.jz_place.specs.Bodies as ir
 use Rattle.jz_homes.specs.Homes.{Homes, IsHoming}
 use Rattle.jz_every_row.specs.Bodies.{beside}
-use Rattle.jz_homing.specs.Tables as homing
-use Rattle.jz_homing.specs.Tables.{no_homes}
-use Rattle.jz_homing.proofs.EntryLemmas.{none_entered, all_entered}
-use Rattle.jz_homing.proofs.HomingLemmas.{table_is_homing}
-use Rattle.jz_declared.specs.Declared.{Differ, AreDeclared, held_of, kept_of}
-use Rattle.jz_declared.specs.Laws.{IsOfDeclarations}
-use Rattle.jz_declared.proofs.Places.{of_declarations}
+use Rattle.jz_lowering.specs.Tables as homing
+use Rattle.jz_lowering.specs.Tables.{no_homes}
+use Rattle.jz_lowering.proofs.EntryLemmas.{none_entered, all_entered}
+use Rattle.jz_lowering.proofs.HomingLemmas.{table_is_homing}
+use Rattle.jz_signature.specs.Declared.{Differ, AreDeclared, held_of, kept_of}
+use Rattle.jz_signature.specs.DeclaredLaws.{IsOfDeclarations}
+use Rattle.jz_signature.proofs.Places.{of_declarations}
 use Rattle.jz_lowering.specs.Functions.{table_of, homes_for}
 use Rattle.jz_listing.specs.declared.compiled.Arg.{Arg}
 use Rattle.jz_listing.specs.declared.compiled.Compiled.{Compiled}

@@ -13,7 +13,7 @@ use Rattle.jz_change.specs.Flattening.{flatten_of}
 use Rattle.jz_change.specs.Views.{change_of}
 use Rattle.jz_listing.specs.declared.compiled.Compiled.{Compiled}
 use Rattle.jz_correct.specs.Registers.{argument_registers, result_registers}
-use Rattle.jz_declared.specs.Declared.{Differ}
+use Rattle.jz_signature.specs.Declared.{Differ}
 use Rattle.jz_lowering.specs.declared.functions.LoweredFun.{LoweredFun}
 use Rattle.jz_lowering.specs.Functions.{IsFunctionLowered, KeepsRuns}
 use Rattle.jz_code.specs.declared.code.MachineCode.{MachineCode}

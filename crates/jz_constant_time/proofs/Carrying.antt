@@ -32,10 +32,10 @@ use Rattle.jz_correct.specs.Starts.{IsStart}
 use Rattle.jz_correct.specs.Agreement.{NeverFaults}
 use Rattle.jz_stack.specs.Laying.{frame_of}
 use Rattle.jz_compiled.specs.Matching.{values_of}
-use Rattle.jz_joined.specs.Making.{IsMade}
-use Rattle.jz_joined.proofs.Joining as joined
-use Rattle.jz_joined.proofs.Joining.{EndsSo, body_end, body_cut}
-use Rattle.jz_joined.proofs.Returning.{all_given}
+use Rattle.jz_constant_leaks.specs.Making.{IsMade}
+use Rattle.jz_constant_leaks.proofs.Joining as joined
+use Rattle.jz_constant_leaks.proofs.Joining.{EndsSo, body_end, body_cut}
+use Rattle.jz_constant_leaks.proofs.Returning.{all_given}
 use Rattle.jz_labels.specs.ConstantTime.{IsConstantTime}
 use Rattle.jz_equal_leaks.specs.Laws.{AreEqualAtPublic, IsFixedFunction, LeakTheSame}
 use Rattle.jz_equal_leaks.proofs.Entry.{leaks_same}

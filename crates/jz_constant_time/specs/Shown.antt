@@ -11,7 +11,7 @@ use Rattle.jz_preconditions.specs.Meeting.{MeetsPreconditions}
 use Rattle.x64_machine.specs.Steps.{Config, steps_of}
 use Rattle.jz_correct.specs.Starts.{IsStart}
 use Rattle.jz_compiled.specs.Matching.{values_of}
-use Rattle.jz_joined.specs.Making.{IsMade}
+use Rattle.jz_constant_leaks.specs.Making.{IsMade}
 use Rattle.jz_equal_leaks.specs.Laws.{AreEqualAtPublic}
 use Rattle.jz_constant_leaks.specs.Told.{IsConstantTime}
 use Rattle.jz_constant_leaks.specs.SafeExpansions.{IsExpandedExport}

@@ -13,11 +13,11 @@ use Rattle.jz_tree.specs.declared.program.Param.{Param}
 use Rattle.jz_type_names.specs.Kinds.{known_of, is_inline_int}
 use Rattle.jz_meaning.specs.Statements.{array_of}
 use Rattle.jz_meaning.specs.Values.{Ref, ref_of}
-use Rattle.jz_inline.specs.BodiesCalls.{is_array, IsNew, AreApart, params_of, vars_of}
-use Rattle.jz_inline.specs.Names.{Names}
-use Rattle.jz_inline.specs.Calls.{name_or, callee_names}
-use Rattle.jz_inline.proofs.Naming.{NoArray, own_name, new_right}
-use Rattle.jz_inline.proofs.Reading.{ref_rolled}
+use Rattle.jz_unrolling_laws.specs.BodiesCalls.{is_array, IsNew, AreApart, params_of, vars_of}
+use Rattle.jz_unrolling_laws.specs.Names.{Names}
+use Rattle.jz_unrolling_laws.specs.Calls.{name_or, callee_names}
+use Rattle.jz_unrolling_laws.proofs.Naming.{NoArray, own_name, new_right}
+use Rattle.jz_unrolling_laws.proofs.Reading.{ref_rolled}
 use Rattle.jz_unroll.specs.Values.{InlineNames}
 use Rattle.jz_unrolling_values.specs.InlineNames.{is_inline_named}
 use Rattle.jz_unrolling_laws.specs.CalledBodies.{ByTest, Inlines, inlines_of, IsNamedArgument, AreNamedArguments}

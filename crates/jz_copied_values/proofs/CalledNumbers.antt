@@ -10,10 +10,10 @@ use Rattle.jz_integers.specs.Integers.{KnownNumbers}
 use Rattle.jz_meaning.specs.declared.access.Kind.{Kind}
 use Rattle.jz_meaning.specs.declared.access.Kind.TheVariants as kind
 use Rattle.jz_meaning.specs.Values.{Ref, ref_of}
-use Rattle.jz_inline.specs.BodiesCalls.{is_array, AreApart, params_of, vars_of}
-use Rattle.jz_inline.specs.Names.{Names, var_in}
-use Rattle.jz_inline.proofs.Naming.{bytes_same}
-use Rattle.jz_inline.proofs.Reading.{ref_so}
+use Rattle.jz_unrolling_laws.specs.BodiesCalls.{is_array, AreApart, params_of, vars_of}
+use Rattle.jz_unrolling_laws.specs.Names.{Names, var_in}
+use Rattle.jz_unrolling_laws.proofs.Naming.{bytes_same}
+use Rattle.jz_unrolling_laws.proofs.Reading.{ref_so}
 use Rattle.jz_limits.specs.Values.{is_int, no_numbers, number_in}
 use Rattle.jz_limits.specs.Walks.{with_argument, with_arguments}
 use Rattle.jz_unroll.specs.Values.{InlineNames}

@@ -21,11 +21,11 @@ use Rattle.jz_meaning.specs.Values.{Ref, ref_of}
 use Rattle.jz_runs.specs.Trees.{op}
 use Rattle.jz_pass.specs.Operations.{in_turn}
 use Rattle.jz_change.specs.declared.change.Numbers.{Numbers}
-use Rattle.jz_inline.specs.BodiesCalls.{is_array}
-use Rattle.jz_inline.specs.Names.{Names, var_in, expr_in, lval_in, op_in}
-use Rattle.jz_inline.specs.Calls.{set_one, argument_ops, result_op, result_ops}
-use Rattle.jz_inline.proofs.Reading.{ref_so}
-use Rattle.jz_inline.proofs.Renaming.{in_var}
+use Rattle.jz_unrolling_laws.specs.BodiesCalls.{is_array}
+use Rattle.jz_unrolling_laws.specs.Names.{Names, var_in, expr_in, lval_in, op_in}
+use Rattle.jz_unrolling_laws.specs.Calls.{set_one, argument_ops, result_op, result_ops}
+use Rattle.jz_unrolling_laws.proofs.Reading.{ref_so}
+use Rattle.jz_unrolling_laws.proofs.Renaming.{in_var}
 use Rattle.jz_limits.specs.Values.{is_int, inline_target, truth_of, holds_in, chosen, set_to, first_left, known_after, number_in}
 use Rattle.jz_limits.specs.Walks.{with_argument, with_arguments}
 use Rattle.jz_unroll.specs.Values.{InlineNames, is_inline_var, has_values, left_has_values, operation_has_values}

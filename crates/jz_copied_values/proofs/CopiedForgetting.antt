@@ -15,9 +15,9 @@ use Rattle.jz_meaning.specs.Statements.{Operation, assign, instruction, unset, m
 use Rattle.jz_meaning.specs.Values.{ref_of}
 use Rattle.jz_pass.specs.Copying.{copies, inlined}
 use Rattle.jz_pass.specs.Operations.{in_turn}
-use Rattle.jz_inline.specs.BodiesCalls.{is_array, params_of, vars_of}
-use Rattle.jz_inline.specs.Names.{Names, var_in, expr_in, lval_in, op_in}
-use Rattle.jz_inline.specs.Calls.{call_place, set_one, argument_ops, result_op, result_ops, names_of_callee, inline_calls}
+use Rattle.jz_unrolling_laws.specs.BodiesCalls.{is_array, params_of, vars_of}
+use Rattle.jz_unrolling_laws.specs.Names.{Names, var_in, expr_in, lval_in, op_in}
+use Rattle.jz_unrolling_laws.specs.Calls.{call_place, set_one, argument_ops, result_op, result_ops, names_of_callee, inline_calls}
 use Rattle.jz_limits.specs.Values.{is_int, inline_target}
 use Rattle.jz_unroll.specs.Values.{InlineNames, is_inline_var}
 use Rattle.jz_unroll.specs.Unrolling.{with_number, all_unknown}

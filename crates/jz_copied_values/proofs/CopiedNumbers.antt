@@ -7,8 +7,8 @@ use Rattle.jz_tree.proofs.Texts.{bytes_eq-true}
 use Rattle.jz_tree.specs.declared.expr.Var.{Var}
 use Rattle.jz_integers.specs.Integers.{KnownNumbers}
 use Rattle.jz_meaning.specs.Values.{Ref, ref_of}
-use Rattle.jz_inline.specs.Names.{Names, var_in}
-use Rattle.jz_inline.proofs.Reading.{ref_so}
+use Rattle.jz_unrolling_laws.specs.Names.{Names, var_in}
+use Rattle.jz_unrolling_laws.proofs.Reading.{ref_so}
 use Rattle.jz_unroll.specs.Values.{InlineNames, is_int, is_inline_var}
 use Rattle.jz_unroll.specs.Unrolling.{IsInlineInt, with_number, number_of}
 use Rattle.jz_unrolling_laws.specs.AskedLaws.{of_text}

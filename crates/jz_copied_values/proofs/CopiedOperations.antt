@@ -19,9 +19,9 @@ use Rattle.jz_integers.specs.Integers.{KnownNumbers, inline_value}
 use Rattle.jz_integers.specs.declared.constant.Constant.{Constant}
 use Rattle.jz_meaning.specs.Statements.{Operation, assign, instruction, unset, meaningless}
 use Rattle.jz_meaning.specs.Values.{Ref, ref_of}
-use Rattle.jz_inline.specs.Names.{Names, var_in, expr_in, access_in, lval_in, op_in}
-use Rattle.jz_inline.proofs.Reading.{layer_in, in_is, access_layer_in, access_in_is, over_layer, over_is, access_over_is, ref_so}
-use Rattle.jz_inline.proofs.Renaming.{in_var}
+use Rattle.jz_unrolling_laws.specs.Names.{Names, var_in, expr_in, access_in, lval_in, op_in}
+use Rattle.jz_unrolling_laws.proofs.Reading.{layer_in, in_is, access_layer_in, access_in_is, over_layer, over_is, access_over_is, ref_so}
+use Rattle.jz_unrolling_laws.proofs.Renaming.{in_var}
 use Rattle.jz_unroll.specs.Values.{cells_step, has_no_cell, InlineNames, is_inline_var, is_known, has_values, access_has_values, left_has_values, if_has_values, operation_has_values}
 use Rattle.jz_unroll.specs.Unrolling.{HasValue}
 use Rattle.jz_unroll.proofs.Layers.{Layer}

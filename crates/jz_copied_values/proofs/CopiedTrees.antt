@@ -14,8 +14,8 @@ use Rattle.jz_meaning.specs.Values.{ref_of}
 use Rattle.jz_change.specs.declared.change.Numbers.TheVariants.{Same}
 use Rattle.jz_pass.specs.Copying.{copies, inlined}
 use Rattle.jz_pass.specs.Operations.{in_turn}
-use Rattle.jz_inline.specs.Names.{Names, var_in, expr_in, test_in, counter_in}
-use Rattle.jz_inline.specs.Calls.{call_place, result_ops, names_of_callee, inline_calls}
+use Rattle.jz_unrolling_laws.specs.Names.{Names, var_in, expr_in, test_in, counter_in}
+use Rattle.jz_unrolling_laws.specs.Calls.{call_place, result_ops, names_of_callee, inline_calls}
 use Rattle.jz_limits.specs.Values.{no_numbers, truth_of, number_in, known_after}
 use Rattle.jz_limits.specs.Asked.{asked_condition}
 use Rattle.jz_limits.specs.Walks.{Walk, limits, behind, followed, silent, constant_steps, taken, arms, rounds, counted_values, with_arguments, walk}

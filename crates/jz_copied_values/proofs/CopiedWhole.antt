@@ -1,7 +1,7 @@
 -- The whole body of a function.
 use Rattle.std.proofs.Common.{refl, arith, inl}
 use Rattle.jz_runs.specs.Trees.{done}
-use Rattle.jz_inline.specs.Functions.{own_names}
+use Rattle.jz_unrolling_laws.specs.Functions.{own_names}
 use Rattle.jz_limits.specs.Values.{no_numbers}
 use Rattle.jz_limits.specs.Walks.{walk}
 use Rattle.jz_unrolling.specs.Fits.{fits_done}

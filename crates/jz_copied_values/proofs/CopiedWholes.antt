@@ -15,9 +15,9 @@ use Rattle.jz_tree.specs.declared.stmt.Lval.TheVariants as lval
 use Rattle.jz_type_names.specs.Kinds.{is_inline}
 use Rattle.jz_meaning.specs.Values.{Ref, MemoryAccess, ref_of, access_of}
 use Rattle.jz_meaning.specs.Assignments.{as_expr, left_span, is_bool, is_flag_layer, is_flag, carries, updated_layer, updated, last_left, whole_of}
-use Rattle.jz_inline.specs.Names.{Names, access_in, expr_in, lval_in}
-use Rattle.jz_inline.proofs.Reading.{Layer, ref_so, layer_in, in_is, access_is, access_layer_in, access_in_is, over_layer, over_is}
-use Rattle.jz_inline.proofs.Renaming.{in_var, in_cell, in_load, in_bin}
+use Rattle.jz_unrolling_laws.specs.Names.{Names, access_in, expr_in, lval_in}
+use Rattle.jz_unrolling_laws.proofs.Reading.{Layer, ref_so, layer_in, in_is, access_is, access_layer_in, access_in_is, over_layer, over_is}
+use Rattle.jz_unrolling_laws.proofs.Renaming.{in_var, in_cell, in_load, in_bin}
 use Rattle.jz_unroll.specs.Values.{splits, is_split}
 use Rattle.jz_unrolling_laws.specs.AskedLaws.{of_text, any_array, is_text}
 use Rattle.jz_unrolling_laws.proofs.CopiedValues.{copied_inline}

@@ -4,8 +4,8 @@ use Rattle.jz_integers.specs.Integers.{KnownNumbers}
 use Rattle.jz_runs.specs.Trees.{done}
 use Rattle.jz_meaning.specs.Statements.{Block}
 use Rattle.jz_pass.specs.Copying.{inlined}
-use Rattle.jz_inline.specs.Calls.{inline_calls}
-use Rattle.jz_inline.specs.Functions.{own_names}
+use Rattle.jz_unrolling_laws.specs.Calls.{inline_calls}
+use Rattle.jz_unrolling_laws.specs.Functions.{own_names}
 use Rattle.jz_limits.specs.Values.{no_numbers}
 use Rattle.jz_unroll.specs.Values.{InlineNames}
 use Rattle.jz_unrolling.specs.Fits.{Fits}

@@ -20,7 +20,7 @@ use Rattle.jz_required.specs.Kept.{origin_of, reason_of}
 use Rattle.jz_drawing.specs.Drawings.{IsFree}
 use Rattle.jz_breaches.specs.Answers as drawn
 use Rattle.jz_change.specs.Changes.{Change}
-use Rattle.jz_expansion.specs.Expansions.{IsExpanded}
+use Rattle.jz_one_expansion.specs.Expansions.{IsExpanded}
 use Rattle.jz_one_expansion.proofs.Expansions.{expansion_plain}
 use Rattle.jz_ct.specs.declared.breach.Secret.{Secret}
 use Rattle.jz_ct.specs.declared.breach.Secret.TheVariants as secret

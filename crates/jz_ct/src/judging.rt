@@ -13,7 +13,7 @@ ghost use Rattle.jz_ct.specs.Told.{told_by, IsConstantTime, HasFirstBreach};
 
 use crate::breach::{Breach, Secret};
 use jz_breaches::first_breach;
-use jz_expansion::Expanded;
+use jz_one_expansion::Expanded;
 use jz_required::Part;
 use jz_tree::{Fun, Var};
 use std::alloc::{AllocError, Global};

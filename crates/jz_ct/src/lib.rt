@@ -6,5 +6,5 @@ mod judging;
 
 pub use breach::{Breach, Secret};
 pub use judging::{Ct, judge};
-pub use jz_expansion::Expanded;
+pub use jz_one_expansion::Expanded;
 pub use jz_required::Reason;

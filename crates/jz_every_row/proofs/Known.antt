@@ -19,10 +19,10 @@ use Rattle.jz_pass.specs.Operations.{in_turn, DoAll, do_none}
 use Rattle.jz_pass.specs.Unrolling.{Knowing, Unrolls, u_done, u_op, u_quiet, u_if, u_arm, u_while, u_once, u_for, IsKnown}
 use Rattle.jz_pass.specs.Cases.{AsMany, none_each, HasItems}
 use Rattle.jz_homes.specs.Homes.{Homes, IsHoming, IsRelated}
-use Rattle.jz_row_operations.specs.Lowering.{tests_each}
-use Rattle.jz_row_operations.specs.Keeping.{DoesAs, AnswersAs}
-use Rattle.jz_row_operations.proofs.HasItems.{lowers_many}
-use Rattle.jz_row_operations.proofs.Known.{op_goes, loop_test_goes}
+use Rattle.jz_flag_runs.specs.Lowering.{tests_each}
+use Rattle.jz_flag_runs.specs.Keeping.{DoesAs, AnswersAs}
+use Rattle.jz_flag_runs.proofs.HasItems.{lowers_many}
+use Rattle.jz_flag_runs.proofs.Known.{op_goes, loop_test_goes}
 use Rattle.jz_flag_runs.specs.Laws.{AreNeedsMet}
 use Rattle.jz_flag_runs.proofs.Whole.{flags_go, flag_tests_go, flags_many}
 use Rattle.jz_every_row.specs.Statements.{Makes, by_row, by_flags, MakesTest, by_comparison, by_flag, MakesLoopTest, by_loop_test, by_loop_flag}

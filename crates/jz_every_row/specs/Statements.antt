@@ -6,9 +6,9 @@ use Rattle.jz_operations.specs.declared.operation.Operation.{Operation as Made}
 use Rattle.jz_placing.specs.Variables.{Asked}
 use Rattle.jz_change.specs.declared.change.Numbers.{Numbers}
 use Rattle.jz_homes.specs.Homes.{Homes}
-use Rattle.jz_row_operations.specs.Lowering.{Lowers, LowersTest, LowersLoopTest}
-use Rattle.jz_flag_rows.specs.Conditions.{LowersFlagTest}
-use Rattle.jz_flag_rows.specs.Rows.{LowersFlags}
+use Rattle.jz_flag_runs.specs.Lowering.{Lowers, LowersTest, LowersLoopTest}
+use Rattle.jz_flag_runs.specs.Conditions.{LowersFlagTest}
+use Rattle.jz_flag_runs.specs.Rows.{LowersFlags}
 
 -- a statement, with the numbers that each of its operations shows
 pub data Makes (home : Homes) (o : Operation) (os : List Made) (items : List Numbers) : Type 0 where

@@ -8,10 +8,10 @@ use Rattle.jz_types.specs.TypedPrograms.{IsTypedProgram}
 use Rattle.jz_texts.specs.Texts.{IsText}
 use Rattle.jz_change.specs.Changes.{Change}
 use Rattle.jz_inline.proofs.Made.{inlined_is}
-use Rattle.jz_inlining.specs.Inlined.{inlined_function}
+use Rattle.jz_expanded_types.specs.Inlined.{inlined_function}
 use Rattle.jz_unrolling_values.specs.InlineNames.{inline_names}
 use Rattle.jz_unrolling_values.specs.Numbers.{no_numbers}
-use Rattle.jz_scalars.specs.Functions.{function_with_scalars, scalar_change}
+use Rattle.jz_expanded_types.specs.Functions.{function_with_scalars, scalar_change}
 use Rattle.jz_function_runs.specs.FunctionRuns.{plain_body}
 use Rattle.jz_expanded_types.specs.CopiedKinds.{copied_kinds}
 use Rattle.jz_expanded_types.specs.Expansions.{IsExpansion}

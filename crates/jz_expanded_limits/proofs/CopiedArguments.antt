@@ -48,7 +48,7 @@ use Rattle.jz_copied_values.proofs.CopiedOperations.{var_named}
 use Rattle.jz_copied_values.proofs.CopiedNumbers.{copy_itself, text_copy, number_elsewhere, set_only, IsCopy, own_place, not_behind, own_copy}
 use Rattle.jz_copied_values.proofs.CalledNames.{by_not}
 use Rattle.jz_copied_values.proofs.CalledNumbers.{param_int, array_no_int}
-use Rattle.jz_walked_laws.proofs.Ones.{nothing_both}
+use Rattle.jz_expansion.proofs.Ones.{nothing_both}
 use Rattle.jz_kept_limits.proofs.Firsts.{AreClean, clean_none, clean_from, clean_to, clean_parts, clean_both, clean_without}
 use Rattle.jz_kept_limits.proofs.Turned.{asking}
 use Rattle.jz_kept_limits.proofs.Operations.{assignment_within}

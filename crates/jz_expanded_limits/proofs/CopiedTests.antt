@@ -34,7 +34,7 @@ use Rattle.jz_unrolling_laws.specs.AskedLaws.{is_text}
 use Rattle.jz_unrolling_laws.specs.CalledBodies.{Inlines, IsNamedCounter, FitsRounds}
 use Rattle.jz_unrolling_laws.proofs.CopiedValues.{copied_inline}
 use Rattle.jz_copied_values.proofs.CopiedNumbers.{IsCopy}
-use Rattle.jz_walked_laws.proofs.Ones.{OnlyOnes, ones_both, Takes, Asks}
+use Rattle.jz_expansion.proofs.Ones.{OnlyOnes, ones_both, Takes, Asks}
 use Rattle.jz_kept_limits.proofs.Firsts.{IsClean, clean_to}
 use Rattle.jz_kept_limits.proofs.Turned.{asking}
 use Rattle.jz_meaning.specs.Lengths.{statements_in}

@@ -29,7 +29,7 @@ use Rattle.jz_copied_values.proofs.CopiedNumbers.{IsCopy, not_behind}
 use Rattle.jz_copied_values.proofs.CalledNames.{callee_copy}
 use Rattle.jz_copied_values.proofs.CalledNumbers.{marked_numbers, mark_elsewhere, mark_none, begun}
 use Rattle.jz_copied_values.proofs.CopiedForgetting.{vars_own}
-use Rattle.jz_walked_laws.proofs.Ones.{OnlyOnes, ones_both, no_limits, Takes, Asks, arms_met}
+use Rattle.jz_expansion.proofs.Ones.{OnlyOnes, ones_both, no_limits, Takes, Asks, arms_met}
 use Rattle.jz_expanded_limits.proofs.Known.{Knows, Ends, ends_here, ends_then}
 use Rattle.jz_meaning.specs.Lengths.{statements_in}
 use Rattle.jz_expanded_limits.proofs.Costs.{cost, at_most, op_cost, behind_cost, each_cost, call_cost}

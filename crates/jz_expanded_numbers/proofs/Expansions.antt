@@ -14,8 +14,8 @@ use Rattle.jz_inlining.specs.Inlined.{inlined_function}
 use Rattle.jz_unroll.specs.Unrolling.{unrolling}
 use Rattle.jz_unroll.specs.Values.{InlineNames}
 use Rattle.jz_integers.specs.Integers.{KnownNumbers}
-use Rattle.jz_ready.specs.CopiedKinds.{copied_kinds}
-use Rattle.jz_ready.proofs.Whole.{ready_law}
+use Rattle.jz_one_expansion.specs.CopiedKinds.{copied_kinds}
+use Rattle.jz_one_expansion.proofs.Whole.{ready_law}
 use Rattle.jz_function_runs.specs.FunctionRuns.{plain_body}
 use Rattle.jz_scalars.specs.Functions.{function_with_scalars}
 use Rattle.jz_one_expansion.specs.Expansions.{IsExpansion}

@@ -32,14 +32,14 @@ use Rattle.jz_unroll.specs.Unrolling.{unrolling}
 use Rattle.jz_unrolling_values.specs.InlineNames.{inline_names}
 use Rattle.jz_unrolling_values.specs.Numbers.{no_numbers}
 use Rattle.jz_type_names.specs.Scopes.{variables_of}
-use Rattle.jz_unrolling.specs.Unrolled.{GivesPlain}
-use Rattle.jz_unrolling.proofs.FunctionLemmas as rounds
-use Rattle.jz_unrolling_laws.specs.CalledBodies.{inlines_of, IsNamed}
+use Rattle.jz_expansion.specs.Unrolled.{GivesPlain}
+use Rattle.jz_expansion.proofs.FunctionLemmas as rounds
+use Rattle.jz_expansion.specs.CalledBodies.{inlines_of, IsNamed}
 use Rattle.jz_expansion.proofs.WalkedLawsWhole.{named_law, called_law, results_law}
 use Rattle.jz_expansion.proofs.Unrollable.{unrollable}
-use Rattle.jz_scalars.specs.Functions.{BeginsWith, function_with_scalars, scalar_change}
-use Rattle.jz_scalars.specs.Ready.{IsReady}
-use Rattle.jz_scalars.proofs.Keeping as thins
+use Rattle.jz_expansion.specs.Functions.{BeginsWith, function_with_scalars, scalar_change}
+use Rattle.jz_expansion.specs.Ready.{IsReady}
+use Rattle.jz_expansion.proofs.Keeping as thins
 use Rattle.jz_function_runs.specs.FunctionRuns.{plain_body, alike_where, alike_always}
 use Rattle.jz_expansion.specs.CopiedKinds.{copied_kinds}
 use Rattle.jz_expansion.proofs.Whole.{ready_law, entry_law}

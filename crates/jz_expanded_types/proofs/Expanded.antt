@@ -13,14 +13,14 @@ use Rattle.jz_change.specs.Changes.{Change}
 use Rattle.jz_pass.specs.Unrolling.{Unrolls}
 use Rattle.jz_pass.specs.Rewriting.{Rewrites}
 use Rattle.jz_inline.proofs.Made.{inlined_is}
-use Rattle.jz_inlining.specs.Inlined.{inlined_function}
+use Rattle.jz_expansion.specs.Inlined.{inlined_function}
 use Rattle.jz_unroll.specs.Unrolling.{unrolling}
 use Rattle.jz_unrolling_values.specs.InlineNames.{inline_names}
 use Rattle.jz_unrolling_values.specs.Numbers.{no_numbers}
 use Rattle.jz_arrays.specs.Arrays.{arrays}
-use Rattle.jz_scalars.specs.Functions.{function_with_scalars, scalar_change}
-use Rattle.jz_scalars.specs.Ready.{IsReady}
-use Rattle.jz_scalars.proofs.Keeping.{keeps_runs}
+use Rattle.jz_expansion.specs.Functions.{function_with_scalars, scalar_change}
+use Rattle.jz_expansion.specs.Ready.{IsReady}
+use Rattle.jz_expansion.proofs.Keeping.{keeps_runs}
 use Rattle.jz_function_runs.specs.FunctionRuns.{plain_body}
 use Rattle.jz_expansion.specs.CopiedKinds.{copied_kinds}
 use Rattle.jz_expansion.proofs.Whole.{ready_law}

@@ -10,9 +10,9 @@ use Rattle.jz_types.specs.TypedPrograms.{IsTypedProgram}
 use Rattle.jz_texts.specs.Texts.{IsText}
 use Rattle.jz_meaning.specs.Runs.{body_of}
 use Rattle.jz_walked_laws.specs.TypedTexts.{IsTypedText}
-use Rattle.jz_copies.specs.Counts.{Passes}
-use Rattle.jz_copies.specs.declared.extent.CopyLimit.{CopyLimit}
-use Rattle.jz_copies.specs.declared.extent.CopyLimit.TheVariants as copies
+use Rattle.jz_first_limit.specs.Counts.{Passes}
+use Rattle.jz_first_limit.specs.CopyLimit.{CopyLimit}
+use Rattle.jz_first_limit.specs.CopyLimit.TheVariants as copies
 use Rattle.jz_first_limit.specs.FirstLimits.{IsWithinLimits}
 use Rattle.jz_inlining.specs.declared.inlining.Inlined.{Inlined}
 use Rattle.jz_inlining.specs.Inlined.{IsExport, IsInlined, inlined_function}

@@ -6,3 +6,8 @@ pub use Rattle.jz_inlining.specs.Inlined
 pub use Rattle.jz_scalars.specs.declared.made.MadeKind
 pub use Rattle.jz_scalars.specs.declared.made.MadeOne
 pub use Rattle.jz_scalars.specs.Scalars
+pub use Rattle.jz_walked_laws.specs.CalledBodies
+pub use Rattle.jz_unrolling.specs.FunctionRuns
+pub use Rattle.jz_scalars.specs.Ready
+pub use Rattle.jz_inlining.specs.Statements
+pub use Rattle.jz_unrolling.specs.Unrolled

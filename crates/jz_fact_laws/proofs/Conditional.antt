@@ -21,9 +21,9 @@ use Rattle.jz_meaning.specs.Statements as source
 use Rattle.jz_meaning.specs.Statements.{assign}
 use Rattle.jz_meaning.proofs.Widths.{equal_sizes}
 use Rattle.jz_flow.specs.Sets.{Below, common}
-use Rattle.jz_terms.specs.Terms.{Term, means, term_of}
-use Rattle.jz_terms.proofs.Bridge.{term_so}
-use Rattle.jz_terms.proofs.TermForms.{term_var}
+use Rattle.jz_facts.specs.Terms.{Term, means, term_of}
+use Rattle.jz_facts.proofs.Bridge.{term_so}
+use Rattle.jz_facts.proofs.TermForms.{term_var}
 use Rattle.jz_facts.specs.Facts.{Facts, Given}
 use Rattle.jz_facts.specs.Intervals.{size_or_64}
 use Rattle.jz_facts.specs.Holding.{assigned, does, renewed, gained, the_word}

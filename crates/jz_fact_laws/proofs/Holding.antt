@@ -4,8 +4,8 @@ use Rattle.x64_insn.specs.Size.{Size}
 use Rattle.jz_intervals.specs.declared.interval.Interval.{Interval}
 use Rattle.jz_meaning.specs.States.{Value, word, boolean, integer}
 use Rattle.jz_meaning.specs.Values.{Meaning}
-use Rattle.jz_terms.specs.Terms.{term_of, means}
-use Rattle.jz_terms.proofs.Bridge.{term_so}
+use Rattle.jz_facts.specs.Terms.{term_of, means}
+use Rattle.jz_facts.proofs.Bridge.{term_so}
 use Rattle.jz_facts.specs.Intervals.{interval}
 use Rattle.jz_fact_laws.specs.Saying.{Yields, IsWithin, MultipleWord, is_number}
 use Rattle.jz_fact_laws.specs.FactLaws.{IntervalsHold, MultiplesHold, AssignmentsHold, TestsHold}

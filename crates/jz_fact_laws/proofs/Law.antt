@@ -14,7 +14,7 @@ use Rattle.jz_meaning.specs.Values.{key_of, ref_of, own_size, evaluated, size_of
 use Rattle.jz_meaning.specs.Assignments.{assigned_whole, Results, left_sizes, whole_of, written, all_written, results_of, conditioned, truth as truth_of}
 use Rattle.jz_meaning.specs.Statements as source
 use Rattle.jz_meaning.specs.Statements.{assign, Condition}
-use Rattle.jz_terms.specs.Terms.{Term, means, term_of}
+use Rattle.jz_facts.specs.Terms.{Term, means, term_of}
 use Rattle.jz_facts.specs.Facts.{Fact, Facts, Given}
 use Rattle.jz_facts.specs.Intervals.{interval, size_or_64}
 use Rattle.jz_facts.specs.Holding.{assigned, does, renewed, gained, the_word}
@@ -22,7 +22,7 @@ use Rattle.jz_facts.specs.Tests.{adds, tested}
 use Rattle.jz_fact_laws.specs.Saying.{Says, Holds, Yields, is_number, IsPlain, AreSized, IsAssigned}
 use Rattle.jz_fact_laws.proofs.Fitting.{yields_then}
 use Rattle.jz_fact_laws.proofs.Ranges.{Good, term_ok}
-use Rattle.jz_terms.proofs.Bridge.{term_so}
+use Rattle.jz_facts.proofs.Bridge.{term_so}
 use Rattle.jz_fact_laws.proofs.Setting.{CopyOf, copy_ok, MultipleValue, written_ok}
 use Rattle.jz_fact_laws.proofs.Testing.{either, test_ok}
 

@@ -18,7 +18,7 @@ use Rattle.jz_meaning.specs.Attempts.{Evaluation, stuck_at, and_then, defined}
 use Rattle.jz_meaning.specs.States.{Value, word, boolean, integer, Key, State}
 use Rattle.jz_meaning.specs.Operators.{same_size, on_words, is_settled, combined, shifted, binary}
 use Rattle.jz_meaning.specs.Values.{key_of, left_wanted, right_wanted, with_right, run_binary}
-use Rattle.jz_terms.specs.Terms.{Term, num, truth, var, cell, load, neg, inv, cast, bin, means, size_in}
+use Rattle.jz_facts.specs.Terms.{Term, num, truth, var, cell, load, neg, inv, cast, bin, means, size_in}
 use Rattle.jz_facts.specs.Facts.{Multiple, Facts, Given, is_among, multiples}
 use Rattle.jz_facts.specs.Intervals.{interval, multiple, has_multiple, is_number_times}
 use Rattle.jz_fact_laws.specs.Saying.{HasWord, Holds, Yields, MultipleWord, is_number, IsPlain}

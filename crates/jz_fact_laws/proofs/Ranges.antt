@@ -20,7 +20,7 @@ use Rattle.jz_meaning.specs.States.{Value, word, boolean, integer, Key, State}
 use Rattle.jz_meaning.specs.Operators.{same_size, on_words, shifted_word, by_flag, joined, is_settled, combined, shifted, binary, is_shift, negated, inverted, cast as cast_value}
 use Rattle.jz_meaning.specs.Values.{key_of, cell_key, size_of, left_wanted, right_wanted, with_right, run_binary, index_at, cell_value, load_at, load_word, address_at, accessed, is_aligned}
 use Rattle.jz_meaning.proofs.Widths.{equal_sizes}
-use Rattle.jz_terms.specs.Terms.{Term, num, truth, var, cell, load, neg, inv, cast, bin, means, size_in}
+use Rattle.jz_facts.specs.Terms.{Term, num, truth, var, cell, load, neg, inv, cast, bin, means, size_in}
 use Rattle.jz_facts.specs.Facts.{AtLeast, AtMost, Under, Facts, Start, Given, hi_of, greatest, least}
 use Rattle.jz_intervals.specs.declared.interval.Interval.{Interval}
 use Rattle.jz_intervals.specs.Intervals.{greatest_word, each_word, where_so, sum, difference, product, mask, quotient, remainder, shifted_by, fitted}

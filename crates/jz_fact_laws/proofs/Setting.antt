@@ -20,7 +20,7 @@ use Rattle.jz_meaning.specs.Operators.{same_size, word_at}
 use Rattle.jz_meaning.specs.Values.{Ref, key_of}
 use Rattle.jz_meaning.specs.Assignments.{held, held_or_unset, with_value}
 use Rattle.jz_meaning.proofs.Widths.{equal_sizes}
-use Rattle.jz_terms.specs.Terms.{Term, num, truth, var, cell, load, neg, inv, cast, bin, means}
+use Rattle.jz_facts.specs.Terms.{Term, num, truth, var, cell, load, neg, inv, cast, bin, means}
 use Rattle.jz_facts.specs.Facts.{Fact, Set, Cell, AtLeast, AtMost, Under, Is, Multiple, Facts, subject, Given, is_among}
 use Rattle.jz_facts.specs.Intervals.{interval, multiple}
 use Rattle.jz_facts.specs.Holding.{renewed, only_set, is_read, copied, of_word, gained, the_word}

@@ -16,7 +16,7 @@ use Rattle.jz_meaning.specs.Attempts.{Evaluation, stuck_at, and_then, defined}
 use Rattle.jz_meaning.specs.States.{Value, word, boolean, integer, Key, State}
 use Rattle.jz_meaning.specs.Operators.{same_size, compared, on_words, by_flag, joined, is_settled, is_shift, combined, shifted, binary, inverted}
 use Rattle.jz_meaning.specs.Values.{key_of, left_wanted, right_wanted, with_right}
-use Rattle.jz_terms.specs.Terms.{Term, num, truth, var, cell, load, neg, inv, cast, bin, means, size_in}
+use Rattle.jz_facts.specs.Terms.{Term, num, truth, var, cell, load, neg, inv, cast, bin, means, size_in}
 use Rattle.jz_facts.specs.Facts.{Fact, Set, Cell, AtLeast, AtMost, Under, Is, Multiple, Facts, Given, is_among}
 use Rattle.jz_facts.specs.Intervals.{size_or_64, interval}
 use Rattle.jz_facts.specs.Tests.{is_var, ◌and◌, at_most, at_least, under, under_what_is, is_the_same, less, less_or_same, same, not_zero, by_true, opposite, adds}

@@ -10,7 +10,7 @@ use Rattle.jz_meaning.specs.States.{Key, State}
 use Rattle.jz_meaning.specs.Values.{evaluated}
 use Rattle.jz_meaning.specs.Statements as source
 use Rattle.jz_meaning.specs.Statements.{assign, Condition}
-use Rattle.jz_terms.specs.Terms.{term_of}
+use Rattle.jz_facts.specs.Terms.{term_of}
 use Rattle.jz_facts.specs.Facts.{Facts, Given, is_among, multiples}
 use Rattle.jz_facts.specs.Intervals.{interval, multiple}
 use Rattle.jz_facts.specs.Holding.{does}

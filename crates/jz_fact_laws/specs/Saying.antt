@@ -17,7 +17,7 @@ use Rattle.jz_meaning.specs.Attempts.{Evaluation}
 use Rattle.jz_meaning.specs.States.{Value, word, boolean, integer, Key, Store, State}
 use Rattle.jz_meaning.specs.Operators.{is_shift}
 use Rattle.jz_meaning.specs.Values.{key_of, cell_key, ref_of, size_of, left_wanted, right_wanted}
-use Rattle.jz_terms.specs.Terms.{Term, num, truth, var, cell, load, neg, inv, cast, bin, term_of, means, size_in}
+use Rattle.jz_facts.specs.Terms.{Term, num, truth, var, cell, load, neg, inv, cast, bin, term_of, means, size_in}
 use Rattle.jz_facts.specs.Facts.{Fact, Set, Cell, AtLeast, AtMost, Under, Is, Multiple, Facts, Start, Given, hi_of}
 use Rattle.jz_intervals.specs.declared.interval.Interval.{Interval}
 use Rattle.jz_facts.specs.Intervals.{size_or_64}

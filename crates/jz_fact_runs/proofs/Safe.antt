@@ -37,14 +37,14 @@ use Rattle.jz_fact_runs.specs.Fine.{IsFine, IsFineTest, AreResults}
 use Rattle.jz_standing.specs.Standing.{Stands}
 use Rattle.jz_fact_runs.specs.RunLaws.{BodiesGo, SafeGoes}
 use Rattle.jz_standing.proofs.Held.{scalar_holds}
-use Rattle.jz_unstuck.proofs.Totals.{some_is}
-use Rattle.jz_unstuck.proofs.Sums.{met, both_met, Runs, runs_then}
-use Rattle.jz_unstuck.proofs.Apart.{tested_stands}
-use Rattle.jz_unstuck.proofs.Marks.{marked_stands}
+use Rattle.jz_two_results.proofs.Totals.{some_is}
+use Rattle.jz_two_results.proofs.Sums.{met, both_met, Runs, runs_then}
+use Rattle.jz_two_results.proofs.Apart.{tested_stands}
+use Rattle.jz_two_results.proofs.Marks.{marked_stands}
 use Rattle.jz_two_results.proofs.OneValue.{one_stands, one_runs}
 use Rattle.jz_two_results.proofs.Outcomes.{instructed_stands, instructed_runs}
 use Rattle.jz_two_results.proofs.Paired.{paired_stands, paired_runs}
-use Rattle.jz_unstuck.proofs.Going.{tests_run}
+use Rattle.jz_two_results.proofs.Going.{tests_run}
 
 from_went : {A : Type 0} (P : A → Type 0) (e : Evaluation A) (ns : List ℕ) (x : A) → e ≡ went ns x → Yields P e → P x
 from_went P e ns x q h = subst (Yields P) q h

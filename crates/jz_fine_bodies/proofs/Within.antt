@@ -28,7 +28,7 @@ use Rattle.jz_limits.specs.Values.{no_numbers}
 use Rattle.jz_limits.specs.Asked.{unless, is_count, bad_count, counted, told, roles_by, roles_of, size_by, Parts, left_parts, operand_parts, beside, in_kinds, asked}
 use Rattle.jz_terms.specs.Terms.{num, term_of}
 use Rattle.jz_terms.proofs.Bridge.{term_layer}
-use Rattle.jz_instructed.specs.Instructed.{with_count, form_of}
+use Rattle.jz_fine_results.specs.Instructed.{with_count, form_of}
 use Rattle.jz_fine_rows.proofs.Layers.{term_out}
 use Rattle.jz_fine_results.specs.Fitting.{NumberFits, OperandsFit, InstructionFits}
 

@@ -1,2 +1,3 @@
 pub mod Fitting
 pub mod FineLaws
+pub use Rattle.jz_instructed.specs.Instructed

@@ -47,7 +47,7 @@ use Rattle.jz_terms.proofs.TermForms.{term_var, term_cell, term_load}
 use Rattle.jz_fact_laws.specs.Saying.{is_number}
 use Rattle.jz_standing.specs.Typing.{IsWord}
 use Rattle.jz_assigned.specs.AssignedLaws.{IsOne}
-use Rattle.jz_instructed.specs.Instructed.{a_word, TakesShape}
+use Rattle.jz_plain_operands.specs.Instructed.{a_word, TakesShape}
 use Rattle.jz_plain_operands.specs.Plain as plain
 use Rattle.jz_plain_operands.specs.Plain.{IsPlain, IsPlainExpr, IsPlainLeft, to_nothing, to_variable, to_cell, to_memory}
 use Rattle.jz_plain_operands.proofs.Layers.{place_out}

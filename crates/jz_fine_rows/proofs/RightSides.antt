@@ -19,7 +19,7 @@ use Rattle.jz_select.specs.Shapes.{Asked, beside, carry_layer, two_beside, value
 use Rattle.jz_judgement.specs.Places.{Place, word, stated}
 use Rattle.jz_judgement.specs.HasType as judged
 use Rattle.jz_judgement.specs.HasType.{Layer, Term as Typed, value, HasType, Types, Operates, Says, LayerSays}
-use Rattle.jz_stuck_runs.proofs.Classes.{rmi_no_truth}
+use Rattle.jz_plain_operands.proofs.Classes.{rmi_no_truth}
 use Rattle.jz_meaning.specs.States.{Key}
 use Rattle.jz_meaning.specs.Values.{left_wanted}
 use Rattle.jz_run_laws.specs.Kinds.{Kinds}

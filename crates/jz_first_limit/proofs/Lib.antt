@@ -4,3 +4,4 @@ pub mod TestArms
 pub mod Answering
 pub mod Copied
 pub mod Setting
+pub use Rattle.jz_interp.proofs.Starts

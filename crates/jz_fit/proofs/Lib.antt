@@ -4,3 +4,4 @@ pub mod Counting
 pub mod HolderLemmas
 pub mod Searching
 pub mod Ordering
+pub use Rattle.jz_live_lists.proofs.FollowedLemmas

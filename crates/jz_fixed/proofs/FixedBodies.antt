@@ -36,7 +36,7 @@ use Rattle.jz_standing.proofs.SumForms.{summed}
 use Rattle.jz_standing.proofs.Counts.{counted}
 use Rattle.jz_assigned.specs.AssignedLaws.{IsOne}
 use Rattle.jz_instructed.specs.Instructed.{Shape, a_flag, a_word, a_pinned, Form, one_word, two_words, three_words, with_carry, with_count, an_address, a_condition, form_of, shapes_of, TakesShape, TakeShapes, AreOperands, IsInstructed}
-use Rattle.jz_two_results.specs.TwoResults.{Pair, of_sum, of_difference, of_product, op_of, before, last_of, IsPair, IsCarriedPair, IsPaired}
+use Rattle.jz_fact_runs.specs.TwoResults.{Pair, of_sum, of_difference, of_product, op_of, before, last_of, IsPair, IsCarriedPair, IsPaired}
 use Rattle.jz_fact_runs.specs.Fine.{IsFine, IsFineTest, AreAssigned}
 use Rattle.jz_labels.specs.Operations.{left_of, read_if, old_of, with_condition, plain_of}
 use Rattle.jz_equal_leaks.specs.Fixed.{IsSilent, IsFixed, AreFixed, IsFixedLeft, AreFixedLefts, IsFixedOperation, IsFixedTest, AreScalars}

@@ -11,7 +11,7 @@ use Rattle.jz_meaning.specs.Statements as source
 use Rattle.jz_operations.specs.declared.operation.Condition.{Condition}
 use Rattle.jz_operations.specs.declared.operation.Condition.TheVariants as condition
 use Rattle.jz_operations.specs.declared.operation.Operation.{Operation}
-use Rattle.jz_placing.specs.Variables.{Asked, asks}
+use Rattle.jz_row_operations.specs.Variables.{Asked, asks}
 use Rattle.jz_change.specs.declared.change.Numbers.{Numbers}
 use Rattle.jz_change.specs.declared.change.Numbers.TheVariants.{These}
 use Rattle.jz_homes.specs.Homes.{Homes, in_flag}

@@ -2,7 +2,7 @@
 use Rattle.std.specs.Prelude.{List}
 use Rattle.jz_meaning.specs.Statements as source
 use Rattle.jz_operations.specs.declared.operation.Operation.{Operation}
-use Rattle.jz_placing.specs.Variables.{Asked}
+use Rattle.jz_row_operations.specs.Variables.{Asked}
 use Rattle.jz_change.specs.declared.change.Numbers.{Numbers}
 use Rattle.jz_homes.specs.Homes.{Homes}
 use Rattle.jz_row_operations.specs.Lowering.{Lowers, LowersLoopTest}

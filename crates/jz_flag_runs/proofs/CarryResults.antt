@@ -43,8 +43,8 @@ use Rattle.jz_row_operations.proofs.Brought.{Row}
 use Rattle.jz_row_operations.proofs.Chosen.{brought_goes, away_from_none, away_from_flag}
 use Rattle.jz_row_operations.proofs.Alus.{carry_asks}
 use Rattle.jz_row_operations.proofs.Lowered.{Goes}
-use Rattle.jz_one_row.proofs.Outs.{out_neg, out_not, out_cast, out_bin}
-use Rattle.jz_one_row.proofs.Operands.{ArgLayer, l_word, l_number, l_scalar, l_cell, l_load, arg_layer}
+use Rattle.jz_flag_rows.proofs.Outs.{out_neg, out_not, out_cast, out_bin}
+use Rattle.jz_flag_rows.proofs.Operands.{ArgLayer, l_word, l_number, l_scalar, l_cell, l_load, arg_layer}
 use Rattle.jz_flag_rows.specs.Results.{IsFlag, carry_alone}
 use Rattle.jz_flag_rows.specs.Rows.{IsSumLayer}
 use Rattle.jz_flag_runs.proofs.FlagLefts.{AreFlags, no_more, taken, unlisted}

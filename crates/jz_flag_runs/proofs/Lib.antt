@@ -20,3 +20,6 @@ pub mod InstructionRows
 pub mod FlagTests
 pub mod Choices
 pub mod Whole
+pub use Rattle.jz_flag_rows.proofs.Codes
+pub use Rattle.jz_row_operations.proofs.HasItems
+pub use Rattle.jz_row_operations.proofs.Known

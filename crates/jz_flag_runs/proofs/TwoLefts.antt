@@ -19,8 +19,8 @@ use Rattle.jz_operations.specs.declared.operation.Arg.{Arg}
 use Rattle.jz_homes.specs.Homes.{Homes}
 use Rattle.jz_homes.specs.Operands.{Leaks, IsArg}
 use Rattle.jz_homes.proofs.Parts.{both_went, went_same}
-use Rattle.jz_one_row.proofs.Outs.{out_bin}
-use Rattle.jz_one_row.proofs.Operands.{ArgLayer, l_word, l_number, l_scalar, l_cell, l_load, arg_layer}
+use Rattle.jz_flag_rows.proofs.Outs.{out_bin}
+use Rattle.jz_flag_rows.proofs.Operands.{ArgLayer, l_word, l_number, l_scalar, l_cell, l_load, arg_layer}
 
 -- ---- which of the two the source does
 pub chosen_then : {A : Type 0} (b : Bool) (x y : Evaluation A) (ns : List ℕ) (v : A) → (if b then x else y) ≡ went ns v → (y ≡ went ns v → ⊥) → x ≡ went ns v

@@ -17,8 +17,8 @@ use Rattle.jz_inline.specs.Functions.{own_names}
 use Rattle.jz_inlining.specs.Inlined.{inlined_function}
 use Rattle.jz_bodies.proofs.Whole.{IsKnown, all_known}
 use Rattle.jz_distinct.proofs.Framed.{typed_differ}
-use Rattle.jz_declared.specs.Declared.{Differ, stack_of}
-use Rattle.jz_declared.proofs.Places.{of_declarations}
+use Rattle.jz_distinct.specs.Declared.{Differ, stack_of}
+use Rattle.jz_distinct.proofs.Places.{of_declarations}
 use Rattle.jz_expanded_runs.specs.Expanded.{Expanded}
 use Rattle.jz_listing.specs.declared.compiled.Compiled.{Compiled}
 use Rattle.jz_correct.specs.Frames.{rounded_up, saved_slots, slots_from, frame_end, frame_size}

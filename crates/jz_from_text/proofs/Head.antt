@@ -37,7 +37,7 @@ use Rattle.jz_unroll.specs.Values.{is_inline_var}
 use Rattle.jz_unrolling_values.specs.InlineNames.{inline_names}
 use Rattle.jz_unrolling.specs.Unrolled as unrolled
 use Rattle.jz_scalars.specs.Functions.{function_with_scalars}
-use Rattle.jz_declared.specs.Declared.{Differ}
+use Rattle.jz_distinct.specs.Declared.{Differ}
 use Rattle.jz_distinct.proofs.Differing.{differ_part}
 use Rattle.jz_listing.specs.declared.compiled.Arg.{Arg}
 use Rattle.jz_correct.specs.Registers.{result_registers}

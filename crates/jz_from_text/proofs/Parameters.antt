@@ -29,7 +29,7 @@ use Rattle.jz_types.specs.declared.fault.TypeRule.TheVariants as rule
 use Rattle.jz_types.proofs.ProgramsKept.{decl_known, var_out}
 use Rattle.jz_meaning.specs.declared.access.Kind.{Kind}
 use Rattle.jz_meaning.specs.Values.{Ref, ref_of}
-use Rattle.jz_declared.specs.Declared.{kept_as, kept_by}
+use Rattle.jz_distinct.specs.Declared.{kept_as, kept_by}
 use Rattle.jz_compiling.specs.SignatureLaws.{IsUnstacked}
 
 abbrev IsWord : Param → Type 0

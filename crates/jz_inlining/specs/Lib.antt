@@ -6,3 +6,5 @@ pub use Rattle.jz_frames.specs.Frames
 pub use Rattle.jz_inline.specs.Functions
 pub use Rattle.jz_frames.specs.InnerFrames
 pub use Rattle.jz_inline.specs.Names
+pub use Rattle.jz_copies.specs.Called
+pub use Rattle.jz_inline.specs.Statements

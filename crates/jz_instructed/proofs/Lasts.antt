@@ -26,7 +26,7 @@ use Rattle.jz_facts.specs.Facts.{Fact, Facts, Given, subject}
 use Rattle.jz_facts.specs.Holding.{in_cell}
 use Rattle.jz_fact_laws.specs.Saying.{Yields, Says}
 use Rattle.jz_fact_laws.proofs.Fitting.{yields_all}
-use Rattle.jz_alarms.specs.Conditions.{asks_left}
+use Rattle.jz_assigned.specs.Conditions.{asks_left}
 use Rattle.jz_standing.specs.Typing.{whole, NoNumbers, IsScalar, IsArray, IsSum}
 use Rattle.jz_standing.specs.Standing.{is_of_cell, AreValid, Stands}
 use Rattle.jz_standing.proofs.SumForms.{summed}

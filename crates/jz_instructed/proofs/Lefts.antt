@@ -25,7 +25,7 @@ use Rattle.jz_facts.specs.Holding.{Gets, none, some_value, the_word, renewed, on
 use Rattle.jz_fact_laws.specs.Saying.{Yields, Says}
 use Rattle.jz_fact_laws.proofs.Fitting.{yields_then, yields_all}
 use Rattle.jz_fact_laws.proofs.Setting.{same_key-true, same_key-refl}
-use Rattle.jz_alarms.specs.Conditions.{asks_left, asks_lefts}
+use Rattle.jz_assigned.specs.Conditions.{asks_left, asks_lefts}
 use Rattle.jz_standing.specs.Typing.{whole, NoNumbers, IsScalar}
 use Rattle.jz_standing.specs.Standing.{is_of_cell, AreValid, Stands}
 use Rattle.jz_standing.proofs.Making.{same_size-refl}

@@ -6,3 +6,8 @@ pub mod Outcomes
 pub mod Instructions
 pub use Rattle.jz_assigned.proofs.Assigning
 pub use Rattle.jz_assigned.proofs.OneValue
+pub use Rattle.jz_assigned.proofs.Apart
+pub use Rattle.jz_assigned.proofs.Going
+pub use Rattle.jz_assigned.proofs.Marks
+pub use Rattle.jz_assigned.proofs.Sums
+pub use Rattle.jz_assigned.proofs.Totals

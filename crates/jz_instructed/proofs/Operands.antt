@@ -21,7 +21,7 @@ use Rattle.jz_facts.specs.Facts.{Facts, Given}
 use Rattle.jz_facts.specs.Intervals.{size_or_64, interval}
 use Rattle.jz_fact_laws.specs.Saying.{Yields, In, is_number}
 use Rattle.jz_fact_laws.proofs.Ranges.{Good, term_ok}
-use Rattle.jz_alarms.specs.Conditions.{Alarm, division, or_else, unless, divides, asks, asks_expr}
+use Rattle.jz_assigned.specs.Conditions.{Alarm, division, or_else, unless, divides, asks, asks_expr}
 use Rattle.jz_words.proofs.Residues.{residue_below}
 use Rattle.jz_standing.specs.Typing.{sizes_of, NoNumbers, IsFlag, IsWord, IsAnswer}
 use Rattle.jz_standing.specs.Standing.{Stands}

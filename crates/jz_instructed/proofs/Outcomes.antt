@@ -34,7 +34,7 @@ use Rattle.jz_facts.specs.Intervals.{size_or_64, interval}
 use Rattle.jz_facts.specs.Holding.{all_written, counted, instruction_gets, instructed}
 use Rattle.jz_fact_laws.specs.Saying.{Yields, In}
 use Rattle.jz_fact_laws.proofs.Fitting.{yields_then}
-use Rattle.jz_alarms.specs.Conditions.{division, asks, asks_expr, asks_each, asks_division, asks_instruction}
+use Rattle.jz_assigned.specs.Conditions.{division, asks, asks_expr, asks_each, asks_division, asks_instruction}
 use Rattle.jz_standing.specs.Typing.{NoNumbers, IsScalar, IsCount}
 use Rattle.jz_standing.specs.Standing.{Stands}
 use Rattle.jz_standing.proofs.Counts.{counted as counted_by}

@@ -8,7 +8,7 @@ use Rattle.jz_meaning.specs.Statements as source
 use Rattle.jz_meaning.specs.Statements.{instruction}
 use Rattle.jz_facts.specs.Holding.{does}
 use Rattle.jz_fact_laws.specs.Saying.{Yields}
-use Rattle.jz_alarms.specs.Conditions.{asks_operation}
+use Rattle.jz_assigned.specs.Conditions.{asks_operation}
 use Rattle.jz_standing.specs.ValueLaws.{Where}
 use Rattle.jz_assigned.specs.MetLaws.{IsOn}
 use Rattle.jz_instructed.specs.Instructed.{IsInstructed}

@@ -7,7 +7,7 @@ mod source;
 mod span;
 mod verdict;
 
-use jz_data::Seq;
+pub use jz_data::{Boxed, Failure, Seq, Text};
 pub use memory::{MemSink, MemSource};
 pub use sink::{Sink, write_all};
 pub use source::{ReadRefused, Source, read_all};

@@ -1,7 +1,6 @@
 //! Operations and variables. A variable is a number: its place in the order of declaration.
 
-use jz_data::Seq;
-use jz_io::Span;
+use jz_io::{Seq, Span};
 use x64_insn::Place;
 
 /// What a variable is: a word lives in a register, a flag in a flag.

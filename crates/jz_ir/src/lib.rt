@@ -9,5 +9,6 @@ mod within;
 
 pub use code::{Code, Kind, Need, Node, Op};
 pub use laws::places_are_told_apart;
+pub use jz_io::Span;
 pub use place::{place_number, place_of};
 pub use within::are_below;

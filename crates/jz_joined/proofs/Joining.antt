@@ -23,11 +23,11 @@ use Rattle.jz_change.specs.Flattening.{flatten_of, Flattens}
 use Rattle.jz_change.proofs.Composition.{composes}
 use Rattle.jz_change.proofs.FlatEvents.{flattens}
 use Rattle.jz_pass.specs.Laws.{Follows, has_ended, was_cut, was_stuck}
-use Rattle.jz_inline.specs.Functions.{Given, body_runs, IsBodyRun}
+use Rattle.jz_function_runs.specs.Functions.{Given, body_runs, IsBodyRun}
 use Rattle.jz_function_runs.specs.FunctionRuns.{plain_body, alike_where}
 use Rattle.jz_place.specs.Bodies as ir
 use Rattle.jz_homes.specs.Homes.{IsRelated}
-use Rattle.jz_every_row.specs.Bodies.{beside}
+use Rattle.jz_lowered.specs.Bodies.{beside}
 use Rattle.jz_lowered.specs.Functions.{entry_of, ArePassed}
 use Rattle.jz_lowered.proofs.Entries.{entered}
 use Rattle.jz_listing.specs.declared.compiled.Compiled.{Compiled}
@@ -36,7 +36,7 @@ use Rattle.jz_correct.specs.Registers.{argument_registers, result_registers}
 use Rattle.jz_correct.specs.Starts as printed
 use Rattle.jz_correct.specs.Starts.{IsStart}
 use Rattle.jz_correct.specs.Agreement.{EndsWith}
-use Rattle.jz_stack.specs.Laying.{frame_of}
+use Rattle.jz_called.specs.Laying.{frame_of}
 use Rattle.jz_called.specs.Called.{Begins, DoesAsCalled}
 use Rattle.jz_called.proofs.Calls.{called}
 use Rattle.jz_compiled.specs.Matching.{values_of, MatchesEnd, MatchesCut, Matches, CarriesOver}

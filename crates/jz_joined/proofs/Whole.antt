@@ -11,9 +11,9 @@ use Rattle.jz_operations.specs.declared.operation.Stacked.{Stacked}
 use Rattle.jz_listing.specs.declared.compiled.Compiled.{Compiled}
 use Rattle.jz_correct.specs.Frames.{rounded_up, saved_of, saved_slots, slots_from, frame_end, frame_size}
 use Rattle.jz_correct.specs.Assembled as correct
-use Rattle.x64_assemble.specs.Assembling as assembling
-use Rattle.jz_stack.specs.Laying as laying
-use Rattle.jz_stack.specs.Framed.{slot_outs}
+use Rattle.jz_called.specs.Assembling as assembling
+use Rattle.jz_called.specs.Laying as laying
+use Rattle.jz_called.specs.Framed.{slot_outs}
 use Rattle.jz_compiled.specs.Layout as layout
 use Rattle.jz_compiled.specs.Layout.{StackVariable, stack_variables_of, layout_end}
 use Rattle.jz_compiled.specs.Showing.{slot_access, saving_accesses}

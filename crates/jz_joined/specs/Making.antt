@@ -19,17 +19,17 @@ use Rattle.jz_change.specs.Changes.{Change}
 use Rattle.jz_change.specs.Composing.{compose_of}
 use Rattle.jz_change.specs.Flattening.{flatten_of}
 use Rattle.jz_pass.specs.Laws.{Carries}
-use Rattle.jz_inline.specs.Functions.{own_names, Given, runs_of, body_runs}
+use Rattle.jz_function_runs.specs.Functions.{own_names, Given, runs_of, body_runs}
 use Rattle.jz_function_runs.specs.FunctionRuns.{plain_body, alike_where}
 use Rattle.jz_place.specs.declared.tree.Ir.{Ir}
 use Rattle.jz_place.specs.Bodies as ir
 use Rattle.jz_homes.specs.Homes.{Homes, IsHoming, in_register}
-use Rattle.jz_every_row.specs.Bodies.{beside}
+use Rattle.jz_lowered.specs.Bodies.{beside}
 use Rattle.jz_lowered.specs.Functions.{IsLoweredFun}
 use Rattle.jz_listing.specs.declared.compiled.Arg.{Arg}
 use Rattle.jz_listing.specs.declared.compiled.Compiled.{Compiled}
 use Rattle.jz_correct.specs.Registers.{argument_registers, result_registers}
-use Rattle.jz_stack.specs.Laying.{frame_of}
+use Rattle.jz_called.specs.Laying.{frame_of}
 use Rattle.jz_called.specs.MachineCode.{MachineCode}
 use Rattle.jz_codable.specs.Ready.{IsReady}
 use Rattle.jz_called.specs.Made.{IsCodeOf}

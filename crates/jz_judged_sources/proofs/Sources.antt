@@ -1,5 +1,5 @@
 -- Functions of a text that `ct` answers with yes.
-use Rattle.jz_safe_expansions.specs.SafeExpansions.{IsExpandedExport}
+use Rattle.jz_source_leaks.specs.SafeExpansions.{IsExpandedExport}
 use Rattle.jasminc_source.proofs.Causing.{text_typed}
 use Rattle.jasminc_expansions.proofs.Typing.{text_text}
 use Rattle.jz_judged.proofs.Texts.{judged_alike}

@@ -5,7 +5,7 @@ use Rattle.jz_type_names.specs.Parts.{span_of}
 use Rattle.jz_integers.specs.Integers.{KnownNumbers}
 use Rattle.jz_judgement.specs.Places.{truth}
 use Rattle.jz_meaning.specs.Statements.{assign, instruction, Counter, Block}
-use Rattle.jz_run_laws.specs.Kinds.{Kinds}
+use Rattle.jz_arrays.specs.Kinds.{Kinds}
 use Rattle.jz_change.specs.Changes.{Change, Changes}
 use Rattle.jz_pass.specs.Unrolling.{u_done, u_op, u_quiet, u_if, u_arm, u_while, u_once, u_for, u_none, u_more, Unrolls, UnrollsEach}
 use Rattle.jz_pass.specs.Rewriting.{knowing_of}

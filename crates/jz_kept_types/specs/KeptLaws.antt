@@ -6,7 +6,7 @@ use Rattle.jz_judgement.specs.Places.{Place}
 use Rattle.jz_judgement.specs.HasType.{value, HasType}
 use Rattle.jz_runs.specs.Trees.{done}
 use Rattle.jz_meaning.specs.Statements.{Operation, Block}
-use Rattle.jz_run_laws.specs.Kinds.{Kinds}
+use Rattle.jz_arrays.specs.Kinds.{Kinds}
 use Rattle.jz_change.specs.Changes.{Change}
 use Rattle.jz_pass.specs.Unrolling.{Unrolls}
 use Rattle.jz_pass.specs.Rewriting.{Rewrites}

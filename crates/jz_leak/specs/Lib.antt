@@ -7,3 +7,4 @@ pub mod Shown
 pub mod InnerWalks
 pub mod InnerSegments
 pub mod InnerSizes
+pub use Rattle.jz_data.specs.Laws as DataLaws

@@ -53,10 +53,10 @@ use Rattle.jz_homes.specs.Homes.{Homes}
 use Rattle.jz_homes.specs.Operands.{Leaks}
 use Rattle.jz_row_operations.specs.Codes.{no_flag, plain, lasting}
 use Rattle.jz_row_operations.specs.Lowering.{IsCompared, compares, denies, Lowers, sets, sets_if, LowersTest, tests, LowersLoopTest, tests_each, never_false}
-use Rattle.jz_flag_rows.specs.Results.{begins_at, carry_alone}
-use Rattle.jz_flag_rows.specs.Wide.{quotient_code}
-use Rattle.jz_flag_rows.specs.Conditions.{IsCondition, by_comparison as with_comparison, by_flag as with_flag, LowersFlagTest, asks_flag}
-use Rattle.jz_flag_rows.specs.Rows.{LowersFlags, carry_results, wide_products, quotients, choices, instructions, sets as sets_byte}
+use Rattle.jz_every_row.specs.Results.{begins_at, carry_alone}
+use Rattle.jz_every_row.specs.Wide.{quotient_code}
+use Rattle.jz_every_row.specs.Conditions.{IsCondition, by_comparison as with_comparison, by_flag as with_flag, LowersFlagTest, asks_flag}
+use Rattle.jz_every_row.specs.Rows.{LowersFlags, carry_results, wide_products, quotients, choices, instructions, sets as sets_byte}
 use Rattle.jz_every_row.specs.Statements.{Makes, by_row, by_flags, MakesTest, by_comparison, by_flag, MakesLoopTest, by_loop_test, by_loop_flag}
 use Rattle.jz_every_row.specs.Bodies.{lowering, without_marks}
 use Rattle.jz_lowered.specs.Functions.{AreKinds, ArePassed, none_passed, one_passed, IsLoweredFun}

@@ -44,15 +44,15 @@ use Rattle.jz_homes.specs.Homes.{Homes}
 use Rattle.jz_homes.specs.Operands.{Leaks, IsArg, a_word, a_number, a_scalar, a_cell, a_load}
 use Rattle.jz_row_operations.specs.Codes.{no_flag, plain, lasting}
 use Rattle.jz_row_operations.specs.Table.{is_imm, nothing, one_code}
-use Rattle.jz_flag_rows.specs.Results as results
-use Rattle.jz_flag_rows.specs.Results.{begins_at, carry_alone}
-use Rattle.jz_flag_rows.specs.Wide.{is_quotient, wide_code, quotient_code}
-use Rattle.jz_flag_rows.specs.Conditions.{IsCondition, by_comparison, by_flag}
-use Rattle.jz_flag_rows.specs.Instructions.{count_code, HasInstruction, two_operands, with_carry, minus, steps, complement, swap, address, compares, shifts, rotates, times, times_by, wide_product, division}
-use Rattle.jz_flag_rows.specs.Rows.{LowersFlags, carry_results, wide_products, quotients, choices, instructions, sets}
+use Rattle.jz_every_row.specs.Results as results
+use Rattle.jz_every_row.specs.Results.{begins_at, carry_alone}
+use Rattle.jz_every_row.specs.Wide.{is_quotient, wide_code, quotient_code}
+use Rattle.jz_every_row.specs.Conditions.{IsCondition, by_comparison, by_flag}
+use Rattle.jz_every_row.specs.Instructions.{count_code, HasInstruction, two_operands, with_carry, minus, steps, complement, swap, address, compares, shifts, rotates, times, times_by, wide_product, division}
+use Rattle.jz_every_row.specs.Rows.{LowersFlags, carry_results, wide_products, quotients, choices, instructions, sets}
 use Rattle.jz_lowered.specs.Functions.{AreKinds}
 use Rattle.jz_lowered.proofs.Accesses.{accessed_once}
-use Rattle.jz_flag_rows.proofs.Codes.{one_all, brought_all, count_all, wide_all, divide_all, divide_two_all}
+use Rattle.jz_every_row.proofs.Codes.{one_all, brought_all, count_all, wide_all, divide_all, divide_two_all}
 use Rattle.jz_lowered.proofs.Sorted.{no_flags_there, AreWords, IsWritten, AllSorted, written, row_sorted, compared_sorted, moved_sorted}
 
 -- ---- places that are left, whatever flags become variables

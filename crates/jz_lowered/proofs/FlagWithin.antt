@@ -30,13 +30,13 @@ use Rattle.jz_change.specs.declared.change.Numbers.{Numbers}
 use Rattle.jz_homes.specs.Homes.{Homes}
 use Rattle.jz_homes.specs.Sums.{Sum}
 use Rattle.jz_row_operations.specs.Table.{is_imm, nothing, one_code}
-use Rattle.jz_flag_rows.specs.Results as results
-use Rattle.jz_flag_rows.specs.Results.{IsFlag, AreFive, AreFour, AreTwo, carry_alone}
-use Rattle.jz_flag_rows.specs.Wide.{is_quotient, wide_code, quotient_code}
-use Rattle.jz_flag_rows.specs.Conditions.{IsFlagCondition, a_flag, denied}
-use Rattle.jz_flag_rows.specs.Instructions.{IsLeaAddress, with_base, a_number, an_index, IsCount, by_number, by_variable, count_code, HasInstruction, two_operands, with_carry, minus, steps, complement, swap, address, compares, shifts, rotates, times, times_by, wide_product, division}
+use Rattle.jz_every_row.specs.Results as results
+use Rattle.jz_every_row.specs.Results.{IsFlag, AreFive, AreFour, AreTwo, carry_alone}
+use Rattle.jz_every_row.specs.Wide.{is_quotient, wide_code, quotient_code}
+use Rattle.jz_every_row.specs.Conditions.{IsFlagCondition, a_flag, denied}
+use Rattle.jz_every_row.specs.Instructions.{IsLeaAddress, with_base, a_number, an_index, IsCount, by_number, by_variable, count_code, HasInstruction, two_operands, with_carry, minus, steps, complement, swap, address, compares, shifts, rotates, times, times_by, wide_product, division}
 use Rattle.jz_lowered.specs.Functions.{AreKinds}
-use Rattle.jz_flag_rows.proofs.Codes.{brought_all, count_all, wide_all, divide_all, divide_two_all}
+use Rattle.jz_every_row.proofs.Codes.{brought_all, count_all, wide_all, divide_all, divide_two_all}
 use Rattle.jz_lowered.proofs.Within.{Under, TermUnder, IsNamed, imm_named, at_named, IsPinned, ArePinned, none_pinned, IsWithinOne, AreWithin, alu_within, mov_within, imul_within, imul_by_within, lea_within, wide_within, sign_within, arg_named, dest_named, register_under, sum_within, address_within, one_within, one_of, shift_by_within}
 
 module _ (home : Homes) (kinds : List Kind) (are : AreKinds home kinds) where

@@ -14,7 +14,7 @@ use Rattle.jz_pass.specs.Operations.{in_turn}
 use Rattle.jz_pass.specs.Unrolling.{Unrolls, u_done, u_op, u_quiet, u_if, u_arm, u_while, u_once, u_for}
 use Rattle.jz_place.specs.Sorts.{TestSorted, AreSorted}
 use Rattle.jz_homes.specs.Homes.{Homes}
-use Rattle.jz_flag_rows.specs.Conditions.{LowersFlagTest, asks_flag}
+use Rattle.jz_every_row.specs.Conditions.{LowersFlagTest, asks_flag}
 use Rattle.jz_every_row.specs.Statements.{Makes, by_row, by_flags, MakesTest, by_comparison, by_flag, MakesLoopTest, by_loop_test, by_loop_flag}
 use Rattle.jz_every_row.specs.Bodies.{lowering, without_marks}
 use Rattle.jz_lowered.specs.Functions.{AreKinds}

@@ -20,7 +20,7 @@ use Rattle.jz_meaning.specs.Lengths.{statements_in}
 use Rattle.jz_lowering.specs.Functions.{plain_body, table_of, homes_for, Refuses, no_home, no_argument, no_result, no_operations, too_long}
 use Rattle.jz_lowering.proofs.FunctionLemmas.{ready_have_code}
 use Rattle.jz_expanded_heads.proofs.Heads.{IsHeadWord, HasHead, head_words}
-use Rattle.jz_safe_expansions.specs.SafeExpansions.{IsExpandedExport}
+use Rattle.jz_exact_refusals.specs.SafeExpansions.{IsExpandedExport}
 use Rattle.jz_exact_refusals.proofs.Frames.{expansion_fits}
 use Rattle.jz_exact_refusals.proofs.Homed.{homeless}
 use Rattle.jz_expanded_homes.proofs.Whole.{HasRegister, word_homed, are_ready}

@@ -6,3 +6,6 @@ pub mod PartsInOrder
 pub mod CodeOfParts
 pub mod PassingLemmas
 pub mod FunctionLemmas
+pub use Rattle.jz_homing.proofs.EntryLemmas
+pub use Rattle.jz_homing.proofs.HandedOn
+pub use Rattle.jz_homing.proofs.HomingLemmas

@@ -5,3 +5,4 @@ pub mod Passing
 pub mod InnerPassing
 pub mod Functions
 pub mod Laws
+pub use Rattle.jz_homing.specs.Tables

@@ -20,3 +20,5 @@ pub use Rattle.jz_runs.specs.RunLeaks
 pub use Rattle.jz_runs.specs.Shown
 pub use Rattle.jz_runs.specs.Trees
 pub use Rattle.jz_runs.specs.Turn
+pub use Rattle.jz_integers.specs.declared.constant.Constant
+pub use Rattle.jz_integers.specs.Integers

@@ -6,8 +6,8 @@ use Rattle.jz_runs.specs.Trees.{done}
 use Rattle.jz_change.specs.Changes.{Change}
 use Rattle.jz_type_names.specs.Scopes.{variables_of}
 use Rattle.jz_expansion.specs.Inlined.{inlined_function}
-use Rattle.jz_function_runs.specs.FunctionRuns.{plain_body}
-use Rattle.jz_unrolling.specs.Unrolled.{IsUnrolled, KeepsHead}
+use Rattle.jz_expansion.specs.FunctionRuns.{plain_body}
+use Rattle.jz_expansion.specs.Unrolled.{IsUnrolled, KeepsHead}
 use Rattle.jz_unrolling_values.specs.InlineNames.{inline_names}
 use Rattle.jz_unrolling_values.specs.Numbers.{no_numbers}
 use Rattle.jz_expansion.specs.Functions.{function_with_scalars}

@@ -16,7 +16,7 @@ use Rattle.jz_tree.specs.declared.stmt.StmtKind.TheFolds.{fold-StmtKind, fold-ro
 use Rattle.jz_runs.specs.Trees.{done, op, quiet, choose, loop, each, call}
 use Rattle.jz_meaning.specs.Statements.{Operation, assign, instruction, Condition, Counter, Block}
 use Rattle.jz_meaning.specs.Runs.{in_order, assign_tree, kind_tree, statement_tree, block}
-use Rattle.jz_inline.specs.Statements.{no_callees}
+use Rattle.jz_expansion.specs.Statements.{no_callees}
 use Rattle.jz_arrays.specs.Cells.{with_scalars, left_with_scalars}
 use Rattle.jz_expansion.specs.MadeKind.{MadeKind}
 use Rattle.jz_expansion.specs.MadeOne.{MadeOne}

@@ -5,7 +5,7 @@ use Rattle.jz_tree.specs.declared.program.Fun.{Fun}
 use Rattle.jz_tree.specs.declared.program.Program.{Program}
 use Rattle.jz_change.specs.Changes.{Change}
 use Rattle.jz_flow.specs.Soundness.{AllAre}
-use Rattle.jz_function_runs.specs.FunctionRuns.{plain_body}
+use Rattle.jz_expansion.specs.FunctionRuns.{plain_body}
 use Rattle.jz_expansion.specs.Expansions.{IsExpansion}
 
 -- one body, as a tree; all else of them is the same

@@ -3,4 +3,5 @@
 
 mod laws;
 
+pub use jz_expansion::Expanded;
 pub use laws::one_expansion;

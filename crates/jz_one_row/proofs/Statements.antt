@@ -19,7 +19,7 @@ use Rattle.jz_operations.specs.declared.operation.Condition.TheVariants as condi
 use Rattle.jz_operations.specs.declared.operation.Action.TheVariants as action
 use Rattle.jz_operations.specs.declared.operation.Operation.{Operation}
 use Rattle.jz_operations.proofs.Somes.{same_some}
-use Rattle.jz_placing.specs.Variables.{Asked, asks}
+use Rattle.jz_row_operations.specs.Variables.{Asked, asks}
 use Rattle.jz_change.specs.declared.change.Numbers.{Numbers}
 use Rattle.jz_change.specs.declared.change.Numbers.TheVariants.{These}
 use Rattle.jz_homes.specs.Homes.{Homes}

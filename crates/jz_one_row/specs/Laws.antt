@@ -8,7 +8,7 @@ use Rattle.jz_meaning.specs.Statements.{Condition}
 use Rattle.jz_operations.specs.declared.operation.Address.{Address}
 use Rattle.jz_operations.specs.declared.operation.Arg.{Arg}
 use Rattle.jz_operations.specs.declared.operation.Operation.{Operation}
-use Rattle.jz_placing.specs.Variables.{Asked}
+use Rattle.jz_row_operations.specs.Variables.{Asked}
 use Rattle.jz_change.specs.declared.change.Numbers.{Numbers}
 use Rattle.jz_homes.specs.Homes.{Homes}
 use Rattle.jz_homes.specs.Sums.{Sum, IsSum, IsAddress, IsIndex}

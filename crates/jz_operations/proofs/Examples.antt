@@ -1,7 +1,7 @@
 -- What the placing of variables sees of a few operations.
 use Rattle.std.proofs.Common.{◌≡◌, ℕ, List, [], ◌∷◌, Some, None, refl, pos}
 use Rattle.jz_words.specs.declared.size.Size.TheVariants.{S8, S64}
-use Rattle.jz_io.specs.declared.span.Span.{Span}
+use Rattle.jz_ir.specs.Span.{Span}
 use Rattle.x64_insn.specs.declared.types.Alu.TheVariants as alu
 use Rattle.x64_insn.specs.declared.types.Wide.TheVariants as wide
 use Rattle.x64_insn.specs.declared.types.Shift.TheVariants as shift

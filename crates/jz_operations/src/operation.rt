@@ -1,6 +1,6 @@
 //! Operations over variables. A variable is a number; it holds a word or a flag.
 
-use jz_io::Span;
+use jz_ir::Span;
 use jz_words::Size;
 use x64_insn::{Alu, Cond, One, Reg, Shift, Wide};
 

@@ -8,3 +8,6 @@ pub mod NotesReaders
 pub mod StmtTrees
 pub mod Table
 pub mod StmtReaders
+pub use Rattle.jz_parse_expr.specs.Operators
+pub use Rattle.jz_parse_expr.specs.Table as ParseExprTable
+pub use Rattle.jz_parse_expr.specs.Trees as ParseExprTrees

@@ -9,8 +9,8 @@ use Rattle.jz_ir.specs.declared.code.Node.TheFolds.{fold-roll-Node}
 use Rattle.jz_ir.specs.Tree as ir
 use Rattle.jz_ir.specs.Tree.{then_tree, tree_of, node_step}
 use Rattle.jz_live.proofs.Nodes.{while_is}
-use Rattle.jz_live_lists.proofs.FollowedLemmas.{if_is}
-use Rattle.jz_live_lists.proofs.FollowedLemmas as flat
+use Rattle.jz_fit.proofs.FollowedLemmas.{if_is}
+use Rattle.jz_fit.proofs.FollowedLemmas as flat
 use Rattle.jz_runs.specs.Trees.{done, op, quiet, choose, loop, each, call}
 use Rattle.jz_operations.specs.declared.operation.Operation.{Operation}
 use Rattle.jz_operations.specs.Reading.{seen_of}

@@ -27,9 +27,9 @@ use Rattle.jz_unrolling_values.specs.InlineNames.{inline_names}
 use Rattle.jz_unrolling_values.specs.Numbers.{no_numbers}
 use Rattle.jz_arrays.specs.Cells.{with_scalars, left_with_scalars}
 use Rattle.jz_arrays.specs.Arrays.{assigns, instructs, tests, arrays}
-use Rattle.jz_scalars.specs.Functions.{function_with_scalars, scalar_change}
-use Rattle.jz_scalars.specs.Ready.{IsReady}
-use Rattle.jz_scalars.proofs.Keeping.{keeps_runs}
+use Rattle.jz_expansion.specs.Functions.{function_with_scalars, scalar_change}
+use Rattle.jz_expansion.specs.Ready.{IsReady}
+use Rattle.jz_expansion.proofs.Keeping.{keeps_runs}
 use Rattle.jz_function_runs.specs.FunctionRuns.{plain_body}
 use Rattle.jz_copied_variables.specs.CopiedKinds.{copied_kinds}
 use Rattle.jz_copied_variables.proofs.Whole.{ready_law}

@@ -30,7 +30,7 @@ use Rattle.jz_run_laws.specs.Counted as counted
 use Rattle.jz_run_laws.specs.Counted.{TyLayer, is_count, counted_type, counted_decl, IsCounted, Counted, EachLayer}
 use Rattle.jz_run_laws.specs.Lefts.{CountedParts, IsCountedLeft}
 use Rattle.jz_row_laws.proofs.Fixed.{no_if, no_cell}
-use Rattle.jz_typed_runs.proofs.KindsOf.{kind_some, kind_by, decl_is}
+use Rattle.jz_stuck_runs.proofs.KindsOf.{kind_some, kind_by, decl_is}
 use Rattle.jz_plain_operands.specs.Plain.{IsPlain, a_word, a_slot, a_flag, an_array, IsPlainExpr, expression, IsPlainLayer, a_number, a_truth, a_variable, a_cell, a_load, a_minus, a_denial, a_cast, of_two, IsPlainLeft, to_nothing, to_variable, to_cell, to_memory}
 use Rattle.jz_plain_operands.proofs.Layers.{two_not, sign_not}
 

@@ -1,2 +1,3 @@
 pub mod Plain
 pub mod PlainLaws
+pub use Rattle.jz_instructed.specs.Instructed

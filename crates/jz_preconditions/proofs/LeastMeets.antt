@@ -13,7 +13,7 @@ use Rattle.jz_tree.specs.Size.TheVariants.{S8, S16, S32, S64}
 use Rattle.jz_tree.specs.declared.expr.Var.{Var}
 use Rattle.jz_tree.specs.declared.program.Fun.{Fun}
 use Rattle.jz_tree.specs.declared.program.Param.{Param}
-use Rattle.jz_lex.proofs.LexingWords.{by_cases, if_true, same_is, same_self}
+use Rattle.jz_annotations.proofs.LexingWords.{by_cases, if_true, same_is, same_self}
 use Rattle.jz_type_names.specs.declared.kinds.Kind.{Kind}
 use Rattle.jz_type_names.specs.declared.kinds.Kind.TheVariants as kind
 use Rattle.jz_type_names.specs.Order.{unless}

@@ -10,7 +10,7 @@ use Rattle.jz_tree.specs.Span.{Span}
 use Rattle.jz_tree.specs.declared.expr.Var.{Var}
 use Rattle.jz_tree.specs.declared.program.Fun.{Fun}
 use Rattle.jz_tree.specs.declared.program.Note.{Note}
-use Rattle.jz_lex.proofs.LexingWords.{true_false, eq_is, le_is}
+use Rattle.jz_annotations.proofs.LexingWords.{true_false, eq_is, le_is}
 use Rattle.jz_type_names.specs.Kinds.{known_of}
 use Rattle.jz_type_names.specs.Scopes.{text_of}
 use Rattle.jz_annotations.specs.declared.precondition.Pre.{Pre}

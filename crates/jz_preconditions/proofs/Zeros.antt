@@ -9,7 +9,7 @@ use Rattle.std.proofs.lemmas.Bool.Decides.{nat_tests}
 use Rattle.std.proofs.lemmas.Bool.{and_parts, ltb-true}
 use Rattle.std.proofs.lemmas.List.Folds.{Any-from_list_any, list_any-from_Any}
 use Rattle.jz_tree.specs.Memory.{Memory}
-use Rattle.jz_lex.proofs.LexingWords.{if_false, le_is}
+use Rattle.jz_annotations.proofs.LexingWords.{if_false, le_is}
 use Rattle.jz_preconditions.specs.Meeting.{ByteRange, IsIn, IsInOne, IsValid}
 
 -- ---- the bytes of one range

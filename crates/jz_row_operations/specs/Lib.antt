@@ -4,3 +4,4 @@ pub mod Table
 pub mod Lowering
 pub mod Keeping
 pub mod Laws
+pub use Rattle.jz_placing.specs.Variables

@@ -3,11 +3,11 @@ use Rattle.std.proofs.Common.{◌≡◌, ◌+◌, ◌<◌, ◌≤◌, ◌⊎◌,
 use Rattle.std.specs.Prelude.{slice_get}
 use Rattle.jz_tree.specs.declared.program.Fun.{Fun}
 use Rattle.jz_tree.specs.declared.program.Program.{Program}
-use Rattle.jz_type_storage.specs.InnerNumbers.{directly, further}
-use Rattle.jz_type_storage.specs.InnerNumbers.{graph_of, Has, row_of, Leads}
-use Rattle.jz_type_storage.specs.Recursion.{CallsAt}
-use Rattle.jz_type_storage.proofs.Bridge.{closed, called_at, stands, cycle_down}
-use Rattle.jz_type_storage.proofs.Ranked.{same_length}
+use Rattle.jz_types.specs.InnerNumbers.{directly, further}
+use Rattle.jz_types.specs.InnerNumbers.{graph_of, Has, row_of, Leads}
+use Rattle.jz_types.specs.Recursion.{CallsAt}
+use Rattle.jz_types.proofs.Bridge.{closed, called_at, stands, cycle_down}
+use Rattle.jz_types.proofs.Ranked.{same_length}
 use Rattle.jz_run_laws.specs.Depths.{HasNoRecursion}
 
 -- ---- lists of numbers

@@ -34,7 +34,7 @@ use Rattle.jz_types.specs.SelectRows.{class_size}
 use Rattle.jz_types.specs.Sums.{is_address, is_index}
 use Rattle.jz_types.specs.Look.{look_of, terms_of, bin_inline}
 use Rattle.jz_types.specs.Operands.{class_at, var_class, class_if, cell_at, cell_class, cell_of, inline_or, mask_of, is_byte, register_layer, masked_class, class_layer, class_of, dest_of}
-use Rattle.jz_integers.specs.Integers.{written_number}
+use Rattle.jz_meaning.specs.Integers.{written_number}
 use Rattle.jz_run_laws.specs.Rows.{place_size}
 use Rattle.jz_run_laws.proofs.Placed.{size_at}
 use Rattle.jz_run_laws.proofs.Sizes.{typed_layer, variable_law, access_law}

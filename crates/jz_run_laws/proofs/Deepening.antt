@@ -8,10 +8,10 @@ use Rattle.jz_tree.specs.declared.program.Program.{Program}
 use Rattle.jz_meaning.specs.Trees.{done}
 use Rattle.jz_type_names.specs.Scopes.{function_named}
 use Rattle.jz_type_names.specs.Parts.{called_by, layer_of, statements_of}
-use Rattle.jz_type_storage.specs.Numbers.{number_named}
-use Rattle.jz_type_storage.specs.Recursion.{CallsAt, IsRanked}
-use Rattle.jz_type_storage.proofs.Naming.{named_or_nobody, named_by_number}
-use Rattle.jz_type_storage.proofs.Bridge.{found}
+use Rattle.jz_types.specs.Numbers.{number_named}
+use Rattle.jz_types.specs.Recursion.{CallsAt, IsRanked}
+use Rattle.jz_types.proofs.Naming.{named_or_nobody, named_by_number}
+use Rattle.jz_types.proofs.Bridge.{found}
 use Rattle.jz_meaning.specs.Statements.{Block}
 use Rattle.jz_meaning.specs.Runs.{Callee, block, with_tree, callees_of}
 use Rattle.jz_run_laws.proofs.SameTrees.{Agree, same_block}

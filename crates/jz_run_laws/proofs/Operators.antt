@@ -9,10 +9,10 @@ use Rattle.jz_tree.proofs.Residues.{residue_below}
 use Rattle.jz_tree.specs.declared.expr.BinOp.{BinOp}
 use Rattle.jz_tree.specs.declared.expr.BinOp.TheVariants as o
 use Rattle.jz_tree.specs.Operators.{is_shift, joins}
-use Rattle.jz_integers.specs.declared.constant.Constant.{Constant}
-use Rattle.jz_integers.specs.declared.constant.Constant.TheVariants as constant
-use Rattle.jz_integers.specs.Integers as numbers
-use Rattle.jz_integers.specs.Integers.{on_integers}
+use Rattle.jz_meaning.specs.Constant.{Constant}
+use Rattle.jz_meaning.specs.Constant.TheVariants as constant
+use Rattle.jz_meaning.specs.Integers as numbers
+use Rattle.jz_meaning.specs.Integers.{on_integers}
 use Rattle.jz_meaning.specs.declared.value.Why.TheVariants.{Init, Divide}
 use Rattle.jz_meaning.specs.Rules.{went}
 use Rattle.jz_meaning.specs.Attempts.{stuck_at, defined}

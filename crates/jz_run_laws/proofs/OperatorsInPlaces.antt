@@ -8,8 +8,8 @@ use Rattle.jz_tree.specs.Words.{residue}
 use Rattle.jz_tree.specs.declared.expr.BinOp.{BinOp}
 use Rattle.jz_tree.specs.declared.expr.BinOp.TheVariants as o
 use Rattle.jz_tree.specs.Operators.{joins}
-use Rattle.jz_integers.specs.Integers as numbers
-use Rattle.jz_integers.specs.Integers.{on_integers}
+use Rattle.jz_meaning.specs.Integers as numbers
+use Rattle.jz_meaning.specs.Integers.{on_integers}
 use Rattle.jz_type_sizes.specs.declared.operators.Group.{Group}
 use Rattle.jz_type_sizes.specs.declared.operators.Group.TheVariants as group
 use Rattle.jz_type_sizes.specs.Operators.{group_of}

@@ -10,8 +10,8 @@ use Rattle.jz_tree.specs.declared.program.Fun.{Fun}
 use Rattle.jz_tree.specs.declared.program.Program.{Program}
 use Rattle.jz_meaning.specs.Trees.{done, call}
 use Rattle.jz_type_names.specs.Scopes.{function_named}
-use Rattle.jz_type_storage.specs.Recursion.{IsRecursive}
-use Rattle.jz_type_storage.proofs.Naming.{named_or_nobody}
+use Rattle.jz_types.specs.Recursion.{IsRecursive}
+use Rattle.jz_types.proofs.Naming.{named_or_nobody}
 use Rattle.jz_types.specs.declared.fault.TypeRule.TheVariants.{Recursion}
 use Rattle.jz_types.specs.TypedPrograms.{IsTypedProgram}
 use Rattle.jz_meaning.specs.Statements.{Block}

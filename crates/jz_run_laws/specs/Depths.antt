@@ -11,8 +11,8 @@ use Rattle.jz_tree.specs.declared.program.Fun.{Fun}
 use Rattle.jz_tree.specs.declared.program.Program.{Program}
 use Rattle.jz_type_names.specs.Scopes.{function_named}
 use Rattle.jz_meaning.specs.Trees.{done, call}
-use Rattle.jz_type_storage.specs.Numbers.{number_named}
-use Rattle.jz_type_storage.specs.Recursion.{IsRecursive, IsRanked}
+use Rattle.jz_types.specs.Numbers.{number_named}
+use Rattle.jz_types.specs.Recursion.{IsRecursive, IsRanked}
 use Rattle.jz_types.specs.TypedPrograms.{IsTypedProgram}
 use Rattle.jz_meaning.specs.Statements.{Block}
 use Rattle.jz_meaning.specs.Runs.{Callee, Callees, statement_tree, block, callees_of, body_of}

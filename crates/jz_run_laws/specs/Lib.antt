@@ -19,3 +19,7 @@ pub use Rattle.jz_types.specs.Matching
 pub use Rattle.jz_types.specs.Programs
 pub use Rattle.jz_types.specs.declared.fault.TypeRule
 pub use Rattle.jz_types.specs.TypedPrograms
+pub use Rattle.jz_types.specs.Declarations
+pub use Rattle.jz_types.specs.Numbering
+pub use Rattle.jz_types.specs.ResolvePrograms
+pub use Rattle.jz_types.specs.Settings

@@ -12,7 +12,7 @@ use Rattle.jz_preconditions.specs.Refusals.{refused_in, refused_places}
 use Rattle.jz_preconditions.specs.Stating.{stated_in, preconditions_of}
 use Rattle.jz_stated.proofs.Annotated.{asked_well}
 use Rattle.jz_change.specs.Views.{change_of}
-use Rattle.jz_expansion.specs.declared.expanded.Expanded.{Expanded}
+use Rattle.jz_one_expansion.specs.Expanded.{Expanded}
 use Rattle.jz_fact_sets.specs.Kept.{AreDifferent}
 use Rattle.jz_given.specs.Giving.{param_of}
 use Rattle.jz_given_laws.specs.GivenLaws.{HasDifferent, HasFew}

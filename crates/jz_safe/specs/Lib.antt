@@ -1,3 +1,3 @@
 pub mod Texts
 pub mod SafeRuns
-pub use Rattle.jz_expansion.specs.declared.expanded.Expanded as ExpansionExpanded
+pub use Rattle.jz_one_expansion.specs.Expanded as ExpansionExpanded

@@ -2,7 +2,7 @@
 use Rattle.jz_tree.specs.declared.program.Fun.{Fun}
 use Rattle.jz_tree.specs.declared.program.Program.{Program}
 use Rattle.jz_change.specs.Views.{change_of}
-use Rattle.jz_expansion.specs.declared.expanded.Expanded.{Expanded}
+use Rattle.jz_one_expansion.specs.Expanded.{Expanded}
 use Rattle.jz_safe_expansions.specs.SafeExpansions.{IsExpandedExport}
 
 -- it is that of the export function f of a typed text

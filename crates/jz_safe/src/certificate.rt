@@ -5,7 +5,7 @@ ghost use Rattle.jz_function_runs.specs.FunctionRuns.{plain_body};
 ghost use Rattle.jz_never_stuck.specs.Safety.{HasNoAlarm};
 ghost use Rattle.jz_safe.specs.Texts.{IsOfText};
 
-use jz_expansion::Expanded;
+use jz_one_expansion::Expanded;
 
 /// The expansion of an export function of a typed text, of which no condition is left open by the
 /// facts under its preconditions.

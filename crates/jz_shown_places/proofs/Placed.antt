@@ -39,9 +39,9 @@ use Rattle.jz_stack.specs.Laying.{offsets_from}
 use Rattle.jz_code.specs.Made.{slots_by}
 use Rattle.jz_compiled.specs.Layout as layout
 use Rattle.jz_compiled.specs.Layout.{StackVariable, Place, stacked_by, stacked_if, stacked_of, stack_variables_of, places_from}
-use Rattle.jz_signature.specs.Laws.{stacked_as, IsUnstacked}
-use Rattle.jz_signature.proofs.Members.{all_left}
-use Rattle.jz_signature.proofs.StackLemmas.{left_out, not_true, in_second}
+use Rattle.jz_from_text.specs.SignatureLaws.{stacked_as, IsUnstacked}
+use Rattle.jz_from_text.proofs.Members.{all_left}
+use Rattle.jz_from_text.proofs.StackLemmas.{left_out, not_true, in_second}
 use Rattle.jz_lowering_cases.specs.Staying.{IsPlaced, ArePlaced, IsSmall}
 
 -- ---- the stack variables by their declarations

@@ -17,7 +17,7 @@ use Rattle.jz_change.specs.Views.{change_of}
 use Rattle.jz_inline.specs.Functions.{own_names}
 use Rattle.jz_inlining.specs.Inlined.{inlined_function}
 use Rattle.jz_bodies.proofs.Whole.{IsKnown, all_known}
-use Rattle.jz_distinct.proofs.Framed.{typed_differ}
+use Rattle.jz_from_text.proofs.Framed.{typed_differ}
 use Rattle.jz_place.specs.Bodies as ir
 use Rattle.jz_declared.specs.Declared.{Differ, kept_of, stack_of}
 use Rattle.jz_declared.specs.Laws.{IsOfDeclarations}
@@ -35,8 +35,8 @@ use Rattle.jz_compiled.specs.Layout.{StackVariable, layout_of, stack_variables_o
 use Rattle.jz_compiled.specs.Lines.{AreResultLines}
 use Rattle.jz_compiled.specs.Showing.{OutsStayIn, CasesStayIn}
 use Rattle.jz_compiled.specs.Correct.{IsCompilation}
-use Rattle.jz_signature.specs.Laws.{stacked_as, IsUnstacked}
-use Rattle.jz_signature.proofs.StackLemmas.{stack_is}
+use Rattle.jz_from_text.specs.SignatureLaws.{stacked_as, IsUnstacked}
+use Rattle.jz_from_text.proofs.StackLemmas.{stack_is}
 use Rattle.jz_from_text.specs.Made.{HasPlainHead}
 use Rattle.jz_from_text.specs.Laws.{IsCompiledFrom}
 use Rattle.jz_from_text.proofs.Head.{plain_head}

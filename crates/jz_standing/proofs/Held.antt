@@ -11,7 +11,7 @@ use Rattle.jz_meaning.specs.declared.access.Kind.TheVariants as kind
 use Rattle.jz_meaning.specs.States.{Value, word, boolean, integer, Key, State}
 use Rattle.jz_meaning.specs.Values.{Ref, key_of, cell_key, size_of}
 use Rattle.jz_run_laws.specs.Kinds.{Kinds, cell_of, part_of, kind_at, IsOfKind, HoldsBytes}
-use Rattle.jz_facts.specs.Facts.{Facts, Given}
+use Rattle.jz_fact_laws.specs.Facts.{Facts, Given}
 use Rattle.jz_fact_laws.specs.Saying.{Fits, Holds}
 use Rattle.jz_standing.specs.Typing.{sizes_of, NoNumbers, IsScalar, IsArray}
 use Rattle.jz_standing.specs.Standing.{Stands}

@@ -12,8 +12,8 @@ use Rattle.jz_meaning.specs.Operators.{is_shift}
 use Rattle.jz_meaning.specs.Values.{Ref, key_of, size_of, left_wanted, right_wanted}
 use Rattle.jz_run_laws.specs.Kinds.{Kinds, part_of}
 use Rattle.jz_terms.specs.Terms.{Term, num, truth, var, cell, load, neg, inv, cast, bin, means, size_in}
-use Rattle.jz_facts.specs.Facts.{Facts, Given}
-use Rattle.jz_facts.specs.Intervals.{size_or_64}
+use Rattle.jz_fact_laws.specs.Facts.{Facts, Given}
+use Rattle.jz_fact_laws.specs.Intervals.{size_or_64}
 use Rattle.jz_fact_laws.specs.Saying.{Yields, HasSize, is_number, IsPlain, IsSized, AreSized}
 use Rattle.jz_fact_laws.proofs.Fitting.{yields_all}
 use Rattle.jz_standing.specs.Typing.{IsRead, sizes_of, is_computed, is_carried, IsScalar, IsArray, IsFlag, IsCount, IsWord, IsAnswer}

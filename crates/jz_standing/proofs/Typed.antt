@@ -17,7 +17,7 @@ use Rattle.jz_meaning.specs.Operators.{binary, is_shift, is_settled, negated, in
 use Rattle.jz_meaning.specs.Values.{Ref, key_of, cell_key, left_wanted, right_wanted, with_right, index_at, cell_value, load_at, load_word, address_at, accessed}
 use Rattle.jz_run_laws.specs.Kinds.{Kinds, IsOfKind}
 use Rattle.jz_terms.specs.Terms.{Term, num, truth, var, cell, load, neg, inv, cast, bin, means, size_in}
-use Rattle.jz_facts.specs.Facts.{Facts, Given}
+use Rattle.jz_fact_laws.specs.Facts.{Facts, Given}
 use Rattle.jz_fact_laws.specs.Saying.{Yields, is_number}
 use Rattle.jz_fact_laws.proofs.Fitting.{yields_then, yields_defined, yields_if, yields_all}
 use Rattle.jz_standing.specs.Typing.{IsRead, is_computed, is_compared, is_carried, IsScalar, IsFlag, IsCount, IsWord, IsAnswer}

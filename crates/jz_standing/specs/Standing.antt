@@ -4,7 +4,7 @@ use Rattle.std.specs.FinMap.{get}
 use Rattle.x64_insn.specs.Memory.{Memory}
 use Rattle.jz_meaning.specs.States.{Key, State}
 use Rattle.jz_run_laws.specs.Kinds.{Kinds, IsOfKinds}
-use Rattle.jz_facts.specs.Facts.{Fact, Cell, Facts, subject, Region, Given, least_of}
+use Rattle.jz_fact_laws.specs.Facts.{Fact, Cell, Facts, subject, Region, Given, least_of}
 use Rattle.jz_fact_laws.specs.Saying.{Says, InRanges}
 use Rattle.jz_standing.specs.Typing.{whole}
 

@@ -6,7 +6,7 @@ use Rattle.jz_meaning.specs.States.{Value, word, boolean, integer, Key, State}
 use Rattle.jz_meaning.specs.Values.{evaluated}
 use Rattle.jz_run_laws.specs.Kinds.{Kinds}
 use Rattle.jz_terms.specs.Terms.{term_of}
-use Rattle.jz_facts.specs.Facts.{Facts, Given}
+use Rattle.jz_fact_laws.specs.Facts.{Facts, Given}
 use Rattle.jz_fact_laws.specs.Saying.{Yields}
 use Rattle.jz_standing.specs.Typing.{NoNumbers, IsWord, IsAnswer}
 use Rattle.jz_standing.specs.Standing.{Stands}

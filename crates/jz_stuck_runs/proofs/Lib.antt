@@ -16,3 +16,4 @@ pub mod RowSizes
 pub mod Instructing
 pub mod Whole
 pub mod Sizes
+pub use Rattle.jz_typed_runs.proofs.KindsOf

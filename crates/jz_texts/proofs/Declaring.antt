@@ -26,10 +26,10 @@ use Rattle.jz_type_names.specs.Scopes.{Name, name_of, PlacesByName, variables_of
 use Rattle.jz_type_names.specs.Parts.{layer_of, statements_of, read_by, arrays_read_by, set_by, called_by}
 use Rattle.jz_type_names.specs.Names.{stands_above, one_unknown, no_function, unknown_where, variables_wanted, arrays_passed, length_names, variables_outside, length_arrays, outside_where, unknown_in_constant, unknown_in_fun, unknown_in, named_before, decls_of, one_repeated, repeated_places, repeated_by, repeated_in_fun, top_names, repeated_in}
 use Rattle.jz_type_names.proofs.Empty.{both, passed, all_empty, no_member}
-use Rattle.jz_resolve.specs.Resolving.{resolved_var, resolved_stmt}
-use Rattle.jz_resolve.specs.Numbering.{Values, values_of, constant_decl, declaration_in, number_in, length_of}
-use Rattle.jz_resolve.specs.Programs.{counted_var, counted_fun, resolved_const, resolved_program}
-use Rattle.jz_type_sizes.specs.Mismatches.{mismatched_as_read, mismatched_declared}
+use Rattle.jz_types.specs.Resolving.{resolved_var, resolved_stmt}
+use Rattle.jz_types.specs.Numbering.{Values, values_of, constant_decl, declaration_in, number_in, length_of}
+use Rattle.jz_types.specs.ResolvePrograms.{counted_var, counted_fun, resolved_const, resolved_program}
+use Rattle.jz_judgement.specs.Mismatches.{mismatched_as_read, mismatched_declared}
 use Rattle.jz_judgement.specs.WellTyped.{IsWellTyped}
 use Rattle.jz_judgement.proofs.Calling.{program_holds}
 use Rattle.jz_types.specs.Carried.{used_by, EachUsed, Carries, declared_in}

@@ -26,10 +26,10 @@ use Rattle.jz_type_names.specs.Scopes.{Name, constant_place, variable_place}
 use Rattle.jz_type_names.specs.Parts.{span_of, length_layer}
 use Rattle.jz_type_names.specs.Names.{is_constant, var_decl, param_decl, ret_decls, decls_of}
 use Rattle.jz_type_names.proofs.Empty.{both, passed, all_empty}
-use Rattle.jz_resolve.specs.Numbering.{Values, value_with, values_of, length_of}
-use Rattle.jz_resolve.specs.Programs.{counted_length, counted_by, counted_layer, counted_decl, counted_var, counted_param, counted_ret}
-use Rattle.jz_type_sizes.specs.Lengths.{is_length, unbuilt, length_wrong, decl_wrong, fun_lengths}
-use Rattle.jz_type_sizes.specs.Mismatches.{constant_wrong, mismatched_as_read}
+use Rattle.jz_types.specs.Numbering.{Values, value_with, values_of, length_of}
+use Rattle.jz_types.specs.ResolvePrograms.{counted_length, counted_by, counted_layer, counted_decl, counted_var, counted_param, counted_ret}
+use Rattle.jz_judgement.specs.Lengths.{is_length, unbuilt, length_wrong, decl_wrong, fun_lengths}
+use Rattle.jz_judgement.specs.Mismatches.{constant_wrong, mismatched_as_read}
 use Rattle.jz_types.proofs.ProgramsKept.{var_out}
 use Rattle.jz_texts.specs.Declared.{IsCountedDecl}
 use Rattle.jz_texts.proofs.Resolved.{H}

@@ -23,7 +23,7 @@ use Rattle.jz_type_names.specs.Order.{earlier, is_before}
 use Rattle.jz_type_names.specs.Scopes.{Name, name_of}
 use Rattle.jz_type_names.specs.Parts.{Layer, layer_of, names_in, arrays_in, cells_step, Cells, cells_in, arrays_of, exprs_of, left_vars, set_by}
 use Rattle.jz_type_names.specs.Names.{stands_above, is_constant}
-use Rattle.jz_resolve.specs.Resolving.{number_or, expr_step, var_step, resolved_expr, resolved_access, resolved_var, resolved_lval, resolved_stmt}
+use Rattle.jz_types.specs.Resolving.{number_or, expr_step, var_step, resolved_expr, resolved_access, resolved_var, resolved_lval, resolved_stmt}
 use Rattle.jz_types.specs.Carried.{vars_in, used_by}
 use Rattle.jz_types.proofs.NamesKept.{layer_names, names_at, var_kept, access_at, resolved_layer}
 use Rattle.jz_types.proofs.StatementsKept.{set_layer, layer_resolved, exprs_kept}

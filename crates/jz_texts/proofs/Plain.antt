@@ -28,9 +28,9 @@ use Rattle.jz_tree.specs.declared.program.Param.{Param}
 use Rattle.jz_parse.specs.declared.function.Body.{Body}
 use Rattle.jz_parse.specs.declared.function.Item.{Item}
 use Rattle.jz_parse.specs.declared.function.Item.TheVariants.{Declares, Does}
-use Rattle.jz_parse_expr.specs.Operators.{ops_of, op_of, level_count}
-use Rattle.jz_parse_expr.specs.Trees.{used_of, name_expr, access_of, chain}
-use Rattle.jz_parse_expr.specs.Table as e
+use Rattle.jz_parse.specs.Operators.{ops_of, op_of, level_count}
+use Rattle.jz_parse.specs.ParseExprTrees.{used_of, name_expr, access_of, chain}
+use Rattle.jz_parse.specs.ParseExprTable as e
 use Rattle.jz_parse.specs.Trees.{declared_of, declared_all, params_all, vars_in, stmts_in}
 use Rattle.jz_parse.specs.StmtTrees.{name_lval}
 use Rattle.jz_parse.specs.Table as s

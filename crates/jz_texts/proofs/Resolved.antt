@@ -21,10 +21,10 @@ use Rattle.jz_tree.specs.declared.program.Program.{Program}
 use Rattle.jz_type_names.specs.Order.{Before}
 use Rattle.jz_type_names.specs.Scopes.{Name, name_of, PlacesByName, variables_of, constant_place}
 use Rattle.jz_type_names.specs.Parts.{Layer, layer_of, exprs_of, left_vars, set_by, statements_of}
-use Rattle.jz_resolve.specs.Resolving.{number_or, expr_step, var_step, resolved_expr, resolved_access, resolved_var, resolved_lval, resolved_stmt}
-use Rattle.jz_resolve.specs.Numbering.{Values, values_of, declaration_in, number_in}
-use Rattle.jz_resolve.specs.Programs.{counted_decl, counted_var, counted_fun, resolved_whole}
-use Rattle.jz_resolve.proofs.Spans.{body_resolved}
+use Rattle.jz_types.specs.Resolving.{number_or, expr_step, var_step, resolved_expr, resolved_access, resolved_var, resolved_lval, resolved_stmt}
+use Rattle.jz_types.specs.Numbering.{Values, values_of, declaration_in, number_in}
+use Rattle.jz_types.specs.ResolvePrograms.{counted_decl, counted_var, counted_fun, resolved_whole}
+use Rattle.jz_types.proofs.Spans.{body_resolved}
 use Rattle.jz_types.specs.Carried.{vars_in, used_by}
 use Rattle.jz_types.proofs.NamesKept.{access_at, resolved_layer}
 use Rattle.jz_types.proofs.StatementsKept.{set_layer, layer_resolved, exprs_kept}

@@ -22,7 +22,7 @@ use Rattle.jz_parse.specs.declared.function.Body.{Body}
 use Rattle.jz_parse.specs.declared.function.Item.{Item}
 use Rattle.jz_parse.specs.declared.function.Item.TheVariants.{Declares, Does}
 use Rattle.jz_parse.specs.Trees.{declared_of, declared_all, params_all, vars_in}
-use Rattle.jz_parse_expr.specs.Table as e
+use Rattle.jz_parse.specs.ParseExprTable as e
 use Rattle.jz_parse.specs.NotesTable as n
 use Rattle.jz_parse.specs.Table.{stmt}
 use Rattle.jz_parse.specs.Grammar as g

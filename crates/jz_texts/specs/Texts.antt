@@ -13,7 +13,7 @@ use Rattle.jz_parse.specs.Deriving.{DerivesProgram}
 use Rattle.jz_type_names.specs.Order.{Before}
 use Rattle.jz_type_names.specs.Scopes.{variables_of}
 use Rattle.jz_type_names.specs.Parts.{Layer, layer_of, statements_of}
-use Rattle.jz_resolve.specs.Programs.{resolved_program}
+use Rattle.jz_types.specs.ResolvePrograms.{resolved_program}
 use Rattle.jz_types.specs.Carried.{EachUsed}
 
 -- a variable as a text has it

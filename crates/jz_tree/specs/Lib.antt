@@ -2,9 +2,9 @@ pub mod LeftSides
 pub mod Deciding
 pub mod Operators
 pub mod Spellings
-pub use Rattle.jz_data.specs.Failures
-pub use Rattle.jz_data.specs.Laws
-pub use Rattle.jz_data.specs.declared.failure.Failure
+pub use Rattle.jz_io.specs.Failures
+pub use Rattle.jz_io.specs.Laws
+pub use Rattle.jz_io.specs.Failure
 pub use Rattle.jz_io.specs.declared.span.Span
 pub use Rattle.jz_words.specs.Memory
 pub use Rattle.jz_words.specs.Sizes

@@ -4,8 +4,7 @@ ghost use Rattle.std.specs.Prelude.{◌≡◌, IfOk};
 ghost use Rattle.jz_tree.specs.LeftSides.{on_left};
 
 use crate::expr::{Access, BinOp, Decl, Expr, Ty, Var};
-use jz_data::Boxed;
-use jz_io::Span;
+use jz_io::{Boxed, Span};
 use std::alloc::{AllocError, Global};
 
 /// An operation on the left side of an expression, without its first operand.

@@ -6,7 +6,7 @@ ghost use Rattle.jz_tree.specs.declared.stmt.StmtKind.{StmtKind};
 use crate::expr::{Expr, Var};
 use crate::program::{Note, NoteValue, Param, Ret};
 use crate::stmt::{Lval, Rhs, Stmt, StmtKind};
-use jz_data::{Boxed, Seq};
+use jz_io::{Boxed, Seq};
 use std::alloc::{AllocError, Global};
 
 impl NoteValue {

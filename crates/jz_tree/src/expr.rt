@@ -1,7 +1,6 @@
 //! Expressions, and the variables and types in them.
 
-use jz_data::{Boxed, Text};
-use jz_io::Span;
+use jz_io::{Boxed, Span, Text};
 use jz_words::Size;
 
 /// Where a value is kept.

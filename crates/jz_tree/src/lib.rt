@@ -16,8 +16,7 @@ pub use copying_statements::{
 };
 pub use expr::{Access, BinOp, Decl, Expr, Storage, Ty, Var};
 pub use intrinsic::{Instance, Intrinsic, spelled};
-pub use jz_data::{Boxed, Failure, Seq, Text};
-pub use jz_io::Span;
+pub use jz_io::{Boxed, Failure, Seq, Span, Text};
 pub use jz_words::{Size, Word};
 pub use operators::{carries, divides, is_shift, joins};
 pub use program::{Const, Fun, FunKind, Note, NoteValue, Param, Program, Ret};

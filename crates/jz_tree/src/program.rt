@@ -2,8 +2,7 @@
 
 use crate::expr::{Decl, Expr, Var};
 use crate::stmt::Stmt;
-use jz_data::{Seq, Text};
-use jz_io::Span;
+use jz_io::{Seq, Span, Text};
 
 /// What a text says: its constants and its functions, each in their order.
 #[derive(Drop)]

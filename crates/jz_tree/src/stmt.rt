@@ -1,8 +1,7 @@
 //! Statements.
 
 use crate::expr::{Access, BinOp, Expr, Var};
-use jz_data::{Boxed, Seq, Text};
-use jz_io::Span;
+use jz_io::{Boxed, Seq, Span, Text};
 
 /// What an assignment sets.
 #[derive(Drop, PartialEq, Eq)]

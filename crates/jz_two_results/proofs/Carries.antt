@@ -15,7 +15,7 @@ use Rattle.jz_fact_laws.specs.Saying.{Yields}
 use Rattle.jz_fact_laws.proofs.Fitting.{yields_then}
 use Rattle.jz_two_results.specs.TwoResults.{Pair, of_sum, of_difference, of_product, op_of}
 use Rattle.jz_standing.proofs.Making.{OfSize, IsTruth}
-use Rattle.jz_unstuck.proofs.Sums.{Runs}
+use Rattle.jz_instructed.proofs.Sums.{Runs}
 use Rattle.jz_two_results.proofs.Pairs.{number_of, at_word, pair_word, plain_binary, from_combined, IsPairOf}
 
 -- what is behind is so, of what came out before

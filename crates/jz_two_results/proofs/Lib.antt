@@ -4,3 +4,8 @@ pub mod Paired
 pub mod TwoValues
 pub use Rattle.jz_instructed.proofs.OneValue
 pub use Rattle.jz_instructed.proofs.Outcomes
+pub use Rattle.jz_instructed.proofs.Apart
+pub use Rattle.jz_instructed.proofs.Going
+pub use Rattle.jz_instructed.proofs.Marks
+pub use Rattle.jz_instructed.proofs.Sums
+pub use Rattle.jz_instructed.proofs.Totals

@@ -45,8 +45,8 @@ use Rattle.jz_standing.specs.Standing.{is_of_cell, Stands}
 use Rattle.jz_standing.proofs.Held.{holds}
 use Rattle.jz_standing.proofs.Typed.{flag_typed, typed, any_yields}
 use Rattle.jz_standing.proofs.Plain.{plain_flag, plain_word, scalar_size}
-use Rattle.jz_unstuck.proofs.Sums.{both_met, Runs, runs_then, runs_yields}
-use Rattle.jz_unstuck.proofs.Marks.{seat, says_same, put_elsewhere, scalar_elsewhere}
+use Rattle.jz_instructed.proofs.Sums.{both_met, Runs, runs_then, runs_yields}
+use Rattle.jz_instructed.proofs.Marks.{seat, says_same, put_elsewhere, scalar_elsewhere}
 use Rattle.jz_instructed.proofs.Assigning.{if_went, three, gained_scalar}
 use Rattle.jz_instructed.proofs.Instructing.{IsGot}
 use Rattle.jz_instructed.proofs.Lasts.{Behind, cell_behind, store_behind}

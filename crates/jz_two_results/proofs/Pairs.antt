@@ -16,7 +16,7 @@ use Rattle.jz_fact_laws.specs.Saying.{Yields}
 use Rattle.jz_fact_laws.proofs.Fitting.{yields_then}
 use Rattle.jz_two_results.specs.TwoResults.{Pair, of_sum, of_difference, of_product, op_of, before}
 use Rattle.jz_standing.proofs.Making.{OfSize, same_size-refl}
-use Rattle.jz_unstuck.proofs.Sums.{Runs}
+use Rattle.jz_instructed.proofs.Sums.{Runs}
 use Rattle.jz_instructed.proofs.Instructing.{IsGot}
 
 -- a value in the place of a word

@@ -2,7 +2,7 @@
 use Rattle.std.proofs.Common.{[], ◌∷◌, None}
 use Rattle.jz_meaning.specs.Statements as source
 use Rattle.jz_meaning.specs.Statements.{assign}
-use Rattle.jz_unstuck.proofs.Going.{goes}
+use Rattle.jz_instructed.proofs.Going.{goes}
 use Rattle.jz_two_results.specs.TwoLaws.{TwoResultsGo, TwoResultsStand}
 use Rattle.jz_two_results.proofs.Paired.{paired_stands, paired_runs}
 

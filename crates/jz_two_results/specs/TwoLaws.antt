@@ -10,7 +10,7 @@ use Rattle.jz_facts.specs.Holding.{does}
 use Rattle.jz_fact_laws.specs.Saying.{Yields}
 use Rattle.jz_alarms.specs.Conditions.{asks_operation}
 use Rattle.jz_standing.specs.ValueLaws.{Where}
-use Rattle.jz_unstuck.specs.MetLaws.{IsOn}
+use Rattle.jz_instructed.specs.MetLaws.{IsOn}
 use Rattle.jz_two_results.specs.TwoResults.{IsPaired}
 
 abbrev pub TwoResultsGo : Type 0

@@ -8,3 +8,11 @@ pub mod Indexes
 pub mod Tables
 pub mod Matching
 pub mod InnerTables
+pub use Rattle.jz_select.specs.declared.class.Class
+pub use Rattle.jz_select.specs.Look
+pub use Rattle.jz_select.specs.declared.class.Mask
+pub use Rattle.jz_select.specs.Operands
+pub use Rattle.jz_select.specs.declared.pattern.Pattern
+pub use Rattle.jz_select.specs.Rows
+pub use Rattle.jz_select.specs.Selected
+pub use Rattle.jz_select.specs.Sums

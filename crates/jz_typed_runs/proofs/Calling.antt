@@ -28,8 +28,8 @@ use Rattle.jz_type_names.specs.Parts.{left_exprs, is_skip}
 use Rattle.jz_type_names.proofs.Empty.{passed}
 use Rattle.jz_type_sizes.specs.Calls.{same_length, agrees}
 use Rattle.jz_type_storage.specs.Declarations.{may_keep, may_pass, may_return, is_passed, is_returned, unkept_by, unkept_param, unkept_ret}
-use Rattle.jz_type_rows.specs.Callees.{of_callee, entered_by, left_by}
-use Rattle.jz_type_rows.specs.Matching.{word_layer, is_word_value}
+use Rattle.jz_types.specs.Callees.{of_callee, entered_by, left_by}
+use Rattle.jz_types.specs.Matching.{word_layer, is_word_value}
 use Rattle.jz_judgement.specs.WellTyped.{InPairs, none, next, PassedAs, PassedBy, Passed, GivenAs, Given, Returned}
 use Rattle.jz_judgement.proofs.Nothing.{none_not}
 use Rattle.jz_types.specs.Carried.{vars_in}

@@ -20,7 +20,7 @@ use Rattle.jz_type_names.specs.declared.kinds.Kind.TheVariants as scope
 use Rattle.jz_type_names.specs.Kinds.{Known, known_of, inline_int, is_inline_int, is_array, is_array_kind}
 use Rattle.jz_type_names.specs.Parts.{Layer, layer_of, exprs_of, left_exprs}
 use Rattle.jz_type_sizes.specs.Mismatches.{Named}
-use Rattle.jz_type_rows.specs.Matching.{may_be_inline, sets_inline, needs_row}
+use Rattle.jz_types.specs.Matching.{may_be_inline, sets_inline, needs_row}
 use Rattle.jz_judgement.specs.Places.{integer, truth, WordKind, IsWordOf}
 use Rattle.jz_judgement.specs.HasType as judged
 use Rattle.jz_judgement.specs.HasType.{Term, value, result, left, HasType, Operates}

@@ -20,7 +20,7 @@ use Rattle.jz_resolve.specs.Programs.{resolved_program}
 use Rattle.jz_type_sizes.specs.Mismatches.{among}
 use Rattle.jz_type_storage.specs.Declarations.{unkept, is_kept, unkept_param, unkept_ret, unkept_in, wrongly_kept}
 use Rattle.jz_type_storage.specs.Settings.{wrongly_set}
-use Rattle.jz_type_rows.specs.Callees.{callee_of, callee_by}
+use Rattle.jz_types.specs.Callees.{callee_of, callee_by}
 use Rattle.jz_judgement.specs.WellTyped.{Calls, WellTyped, WellTypedIn, IsWellTyped}
 use Rattle.jz_judgement.specs.WellTyped as well
 use Rattle.jz_types.specs.Carried.{vars_in, used_by, declared_in}

@@ -7,3 +7,7 @@ pub mod StatementsKept
 pub mod ProgramsKept
 pub mod RowsHeld
 pub mod Carrying
+pub use Rattle.jz_type_storage.proofs.Bridge
+pub use Rattle.jz_type_storage.proofs.Naming
+pub use Rattle.jz_type_storage.proofs.Ranked
+pub use Rattle.jz_resolve.proofs.Spans

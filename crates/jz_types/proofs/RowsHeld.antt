@@ -13,9 +13,9 @@ use Rattle.jz_tree.specs.declared.stmt.StmtKind.{StmtKind}
 use Rattle.jz_tree.specs.declared.stmt.StmtKind.TheOpen.{StmtKind-F}
 use Rattle.jz_tree.specs.declared.program.Fun.{Fun}
 use Rattle.jz_tree.specs.declared.program.Program.{Program}
-use Rattle.jz_select.specs.declared.pattern.Pattern.{Pattern}
-use Rattle.jz_select.specs.Selected.{IsSelected, IsCopied, pattern_selected, pattern_copied}
-use Rattle.jz_select.proofs.FirstRow.{is_selected, is_copied}
+use Rattle.jz_type_rows.specs.Pattern.{Pattern}
+use Rattle.jz_type_rows.specs.Selected.{IsSelected, IsCopied, pattern_selected, pattern_copied}
+use Rattle.jz_type_rows.proofs.FirstRow.{is_selected, is_copied}
 use Rattle.jz_type_names.specs.Order.{earliest}
 use Rattle.jz_type_names.specs.Scopes.{constant_place, variable_place, or_values}
 use Rattle.jz_type_names.specs.Parts.{Layer, layer_of, statements_of, is_skip}

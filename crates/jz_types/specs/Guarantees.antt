@@ -8,8 +8,8 @@ use Rattle.jz_tree.specs.declared.stmt.Stmt.{Stmt}
 use Rattle.jz_tree.specs.declared.stmt.StmtKind.TheOpen.{StmtKind-F}
 use Rattle.jz_tree.specs.declared.program.Fun.{Fun}
 use Rattle.jz_tree.specs.declared.program.Program.{Program}
-use Rattle.jz_select.specs.declared.pattern.Pattern.{Pattern}
-use Rattle.jz_select.specs.Selected.{IsSelected, IsCopied}
+use Rattle.jz_type_rows.specs.Pattern.{Pattern}
+use Rattle.jz_type_rows.specs.Selected.{IsSelected, IsCopied}
 use Rattle.jz_type_names.specs.Parts.{Layer, layer_of, statements_of, is_skip}
 use Rattle.jz_type_rows.specs.declared.callee.Callee.{Callee}
 use Rattle.jz_type_rows.specs.Callees.{callee_by}

@@ -9,13 +9,21 @@ pub mod InnerFunctions
 pub mod InnerFaults
 pub use Rattle.jz_type_rows.specs.declared.callee.Callee
 pub use Rattle.jz_type_rows.specs.Callees
-pub use Rattle.jz_select.specs.declared.class.Class
+pub use Rattle.jz_type_rows.specs.Class
 pub use Rattle.jz_type_rows.specs.Copies
 pub use Rattle.jz_type_rows.specs.Exports
-pub use Rattle.jz_select.specs.Look
-pub use Rattle.jz_select.specs.declared.class.Mask
+pub use Rattle.jz_type_rows.specs.Look
+pub use Rattle.jz_type_rows.specs.Mask
 pub use Rattle.jz_type_rows.specs.Matching
-pub use Rattle.jz_select.specs.Operands
+pub use Rattle.jz_type_rows.specs.Operands
 pub use Rattle.jz_type_rows.specs.Programs
-pub use Rattle.jz_select.specs.Rows as SelectRows
-pub use Rattle.jz_select.specs.Sums
+pub use Rattle.jz_type_rows.specs.Rows as SelectRows
+pub use Rattle.jz_type_rows.specs.Sums
+pub use Rattle.jz_type_storage.specs.Declarations
+pub use Rattle.jz_type_storage.specs.InnerNumbers
+pub use Rattle.jz_resolve.specs.Numbering
+pub use Rattle.jz_type_storage.specs.Numbers
+pub use Rattle.jz_type_storage.specs.Recursion
+pub use Rattle.jz_resolve.specs.Programs as ResolvePrograms
+pub use Rattle.jz_resolve.specs.Resolving
+pub use Rattle.jz_type_storage.specs.Settings

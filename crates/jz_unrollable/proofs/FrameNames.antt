@@ -22,7 +22,7 @@ use Rattle.jz_meaning.specs.Statements.{Block}
 use Rattle.jz_meaning.specs.Runs.{body_of}
 use Rattle.jz_texts.specs.Texts.{IsText, IsTextFun, IsPlain}
 use Rattle.jz_texts.specs.Declared.{HasDeclarations}
-use Rattle.jz_copies.specs.Called.{called_function}
+use Rattle.jz_inlining.specs.Called.{called_function}
 use Rattle.jz_pass.specs.Copying.{copies}
 use Rattle.jz_inlining.specs.Names.{Names}
 use Rattle.jz_inlining.specs.Calls.{callee_names}

@@ -5,7 +5,7 @@ use Rattle.jz_tree.specs.declared.program.Fun.{Fun}
 use Rattle.jz_tree.specs.declared.program.Program.{Program}
 use Rattle.jz_change.specs.declared.change.Change.{Change as Code}
 use Rattle.jz_change.specs.Views.{change_of}
-use Rattle.jz_lowering.specs.Functions.{Refuses}
+use Rattle.jz_compiling.specs.Functions.{Refuses}
 use Rattle.jz_listing.specs.declared.compiled.Compiled.{Compiled}
 use Rattle.jz_correct.specs.Frames.{frame_end, frame_size}
 use Rattle.jz_correct.specs.Registers.{argument_registers}

@@ -13,8 +13,8 @@ use Rattle.jz_meaning.specs.Statements.{Block}
 use Rattle.jz_fact_sets.specs.Kept.{given_of}
 use Rattle.jz_function_runs.specs.FunctionRuns.{plain_body}
 use Rattle.jz_homes.specs.Homes.{Homes}
-use Rattle.jz_lowering.specs.Functions.{homes_for}
-use Rattle.jz_lowering_cases.specs.Staying.{IsInside, statement_cells, HasCellsInside}
+use Rattle.jz_compiling.specs.Functions.{homes_for}
+use Rattle.jz_safe_indices.specs.Staying.{IsInside, statement_cells, HasCellsInside}
 use Rattle.jz_safe_indices.proofs.Asked.{all_inside}
 use Rattle.jz_shown_places.specs.Laws.{IsIndexed}
 use Rattle.jz_safe.specs.declared.certificate.Safe.{Safe}

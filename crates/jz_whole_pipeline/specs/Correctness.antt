@@ -2,7 +2,7 @@
 use Rattle.jz_tree.specs.declared.program.Fun.{Fun}
 use Rattle.jz_tree.specs.declared.program.Program.{Program}
 use Rattle.jz_safe.specs.ExpansionExpanded.{Expanded}
-use Rattle.jz_lowering.specs.Functions.{Refuses}
+use Rattle.jz_compiling.specs.Functions.{Refuses}
 use Rattle.jz_listing.specs.declared.compiled.Compiled.{Compiled}
 use Rattle.jz_code.specs.declared.code.NoCode.{NoCode}
 use Rattle.jz_compiled.specs.Correct.{IsCompilation}

@@ -5,7 +5,7 @@ use Rattle.jz_compiled.specs.Lines.{AreArgumentLines, AreResultLines}
 use Rattle.std.specs.Prelude.{◌≡◌, Some}
 use Rattle.jz_type_names.specs.Order.{earliest}
 use Rattle.jz_preconditions.specs.Refusals.{refused_places}
-use Rattle.jz_homing.proofs.HandedOn.{handed_cause}
+use Rattle.jz_lowering.proofs.HandedOn.{handed_cause}
 use Rattle.jz_compiling.specs.Refused.{HasNoHead, no_arguments, no_results, wrong_annotation}
 use Rattle.jz_compiling.proofs.compiling.head_of.Goals as goal
 

@@ -1,6 +1,6 @@
 use Rattle.std.proofs.Common.{◌∙◌, ap, subst}
 use Rattle.jz_tree.specs.declared.program.Fun.{Fun}
-use Rattle.jz_interp.proofs.Starts.{found_at}
+use Rattle.jz_first_limit.proofs.Starts.{found_at}
 use Rattle.jz_first_limit.specs.declared.met.Met.TheVariants.{Within, Passed}
 use Rattle.jz_first_limit.specs.FirstLimits.{IsMet}
 use Rattle.jz_expansion.proofs.expanding.ask_limits.Goals as goal

@@ -1,6 +1,6 @@
 use Rattle.std.proofs.Common.{◌≡◌, ◌∙◌, ap}
 use Rattle.jz_safe.specs.ExpansionExpanded.{Expanded}
-use Rattle.jz_first_alarm.proofs.Stepping.{handed_on}
+use Rattle.jz_safe.proofs.Stepping.{handed_on}
 use Rattle.jz_compiling.specs.Refused.{IsNotCompiled}
 use Rattle.jz_whole_pipeline.specs.Correctness.{IsRefusedFor}
 use Rattle.jz_whole_pipeline.proofs.Compiled.{moved, correct_of, has_places, is_small, refused_for}
