@@ -5,8 +5,7 @@ ghost use Rattle.std.specs.Prelude.{◌≡◌, ◌↔◌, IsTrue};
 ghost use Rattle.jz_tree.specs.declared.expr.Expr.{Expr};
 
 use crate::expr::{Access, BinOp, Decl, Expr, Storage, Ty, Var};
-use jz_data::Text;
-use jz_io::Span;
+use jz_io::{Span, Text};
 use jz_words::Size;
 
 fn same_operations(a: BinOp, b: BinOp) -> bool

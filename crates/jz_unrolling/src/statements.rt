@@ -16,7 +16,8 @@ ghost use Rattle.jz_unrolling_values.specs.Parts.{IsTest, IsNever};
 ghost use Rattle.jz_unrolling_values.specs.Refusals.{OrElse, SetsOne};
 ghost use Rattle.jz_unrolling_values.specs.declared.conditions.Test.TheVariants.{Asked};
 ghost use Rattle.jz_unrolling.specs.Refusals.{NeverFits, NeverTurns, NeverCounts, NeverRounds};
-ghost use Rattle.jz_unrolling.specs.Steps.{no_callees, setting_of, branch_of, turns_of};
+ghost use Rattle.jz_unrolling.specs.Steps.{no_callees, assignment_of, setting_of};
+ghost use Rattle.jz_unrolling.specs.Steps.{branch_of, while_of, turns_of};
 ghost use Rattle.jz_unrolling.specs.Steps.{one_item, step_list, Adds, AddsOne, AddsStep, IsApart};
 ghost use Rattle.jz_unrolling.specs.Steps.{IsLoop, IsTurn, HasRounds, AddsRounds};
 
@@ -35,6 +36,15 @@ use std::alloc::{AllocError, Global};
 pub(crate) struct Unroller<'a> {
     pub alloc: Global,
     pub vars: &'a InlineVars,
+}
+
+/// An assignment with whatever right side.
+#[derive(Clone, Copy)]
+struct Assignment<'a> {
+    to: &'a Seq<Lval>,
+    op: Option<BinOp>,
+    rhs: &'a Rhs,
+    cond: &'a Option<Expr>,
 }
 
 /// An assignment: `to = value`, with an operation `to = to op value`, where `cond` holds.
@@ -108,32 +118,12 @@ fn unroll_one(
         (NeverFits names piece (numbers_in known.old))) }
 {
     match &stmt.kind {
-        StmtKind::Assign { to, op, rhs, cond } => match rhs {
-            Rhs::Value(value) => {
-                let setting = Setting {
-                    to,
-                    op: *op,
-                    value,
-                    cond,
-                };
-                let step = unroll_setting(unroller, known, stmt, &setting, out)?;
-                Ok(Some(step))
-            }
-            Rhs::Call(_, _, at) => Err(Failure::Refused(*at)),
-            Rhs::Intrinsic(name, args, at) => {
-                if op.is_some() || cond.is_some() {
-                    return Err(Failure::Refused(*at));
-                }
-                let named = Named {
-                    to,
-                    name,
-                    args,
-                    at: *at,
-                };
-                let step = unroll_instruction(unroller, known, stmt, &named, out)?;
-                Ok(Some(step))
-            }
-        },
+        StmtKind::Assign { to, op, rhs, cond } => {
+            let op = *op;
+            let assignment = Assignment { to, op, rhs, cond };
+            let step = unroll_assign(unroller, known, stmt, &assignment, out)?;
+            Ok(Some(step))
+        }
         StmtKind::If(cond, yes, no) => {
             let branch = Branch { cond, yes, no };
             let step = unroll_if(unroller, known, stmt, &branch, out)?;
@@ -144,12 +134,7 @@ fn unroll_one(
             cond,
             body,
         } => {
-            let turns = Turns {
-                prologue,
-                cond,
-                body,
-            };
-            let step = unroll_while(unroller, known, stmt, &turns, out)?;
+            let step = unroll_while(unroller, known, stmt, prologue, cond, body, out)?;
             Ok(Some(step))
         }
         StmtKind::For {
@@ -166,6 +151,49 @@ fn unroll_one(
         StmtKind::Mark(vars) => {
             unroll_mark(unroller, known, stmt, vars, out)?;
             Ok(None)
+        }
+    }
+}
+
+/// An assignment by its right side. A call is refused, and an operation or a condition about an
+/// instruction.
+fn unroll_assign(
+    unroller: &Unroller<'_>,
+    known: &mut Known,
+    stmt: &Stmt,
+    assignment: &Assignment<'_>,
+    out: &mut Seq<Stmt>,
+) -> Result<Step, Failure<Span>>
+    ensures { let names = names_in unroller.now.vars.now in
+        let piece = assignment_of assignment.now stmt.now.span in
+        IfAnswered result (OrElse (AddsStep names piece known.old known.new out.old out.new)
+        (NeverFits names piece (numbers_in known.old))) }
+{
+    let to = assignment.to;
+    match assignment.rhs {
+        Rhs::Value(value) => {
+            let setting = Setting {
+                to,
+                op: assignment.op,
+                value,
+                cond: assignment.cond,
+            };
+            let step = unroll_setting(unroller, known, stmt, &setting, out)?;
+            Ok(step)
+        }
+        Rhs::Call(_, _, at) => Err(Failure::Refused(*at)),
+        Rhs::Intrinsic(name, args, at) => {
+            if assignment.op.is_some() || assignment.cond.is_some() {
+                return Err(Failure::Refused(*at));
+            }
+            let named = Named {
+                to,
+                name,
+                args,
+                at: *at,
+            };
+            let step = unroll_instruction(unroller, known, stmt, &named, out)?;
+            Ok(step)
         }
     }
 }
@@ -471,11 +499,13 @@ fn unroll_while(
     unroller: &Unroller<'_>,
     known: &mut Known,
     stmt: &Stmt,
-    turns: &Turns<'_>,
+    prologue: &Seq<Stmt>,
+    cond: &Expr,
+    body: &Option<Seq<Stmt>>,
     out: &mut Seq<Stmt>,
 ) -> Result<Step, Failure<Span>>
     ensures { let names = names_in unroller.now.vars.now in
-        let piece = turns_of turns.now stmt.now.span in
+        let piece = while_of prologue.now cond.now body.now stmt.now.span in
         IfAnswered result (OrElse (AddsStep names piece known.old known.new out.old out.new)
         (NeverFits names piece (numbers_in known.old))) }
 {
@@ -484,12 +514,17 @@ fn unroll_while(
         vars: unroller.vars,
         known: &*known,
     };
-    let never = is_never(&values, turns.cond)?;
+    let never = is_never(&values, cond)?;
+    let turns = Turns {
+        prologue,
+        cond,
+        body,
+    };
     if never {
-        let step = unroll_once(unroller, known, stmt.span, turns, out)?;
+        let step = unroll_once(unroller, known, stmt.span, &turns, out)?;
         return Ok(step);
     }
-    let step = unroll_turns(unroller, known, stmt, turns, out)?;
+    let step = unroll_turns(unroller, known, stmt, &turns, out)?;
     Ok(step)
 }
 
