@@ -8,7 +8,7 @@ mod place;
 mod within;
 
 pub use code::{Code, Kind, Need, Node, Op};
-pub use laws::places_are_told_apart;
 pub use jz_io::Span;
+pub use laws::places_are_told_apart;
 pub use place::{place_number, place_of};
 pub use within::are_below;

@@ -9,8 +9,8 @@ ghost use Rattle.jz_safe.specs.Texts.{IsOfText};
 
 use crate::certificate::Safe;
 use jz_asked::Alarm;
-use jz_one_expansion::Expanded;
 use jz_first_alarm::first_alarm;
+use jz_one_expansion::Expanded;
 use jz_stated::stated;
 use jz_tree::Failure;
 use std::alloc::Global;
