@@ -98,10 +98,7 @@ impl Expr {
                 Expr::Var(b) => a.same(b),
                 _ => false,
             },
-            Expr::Cell(a, at) => match other {
-                Expr::Cell(b, other_at) => a.same(b) && at.get().same(other_at.get()),
-                _ => false,
-            },
+            Expr::Cell(array, at) => at.get().same_cell(array, other),
             Expr::Load(a) => match other {
                 Expr::Load(b) => a.same(b),
                 _ => false,
@@ -114,9 +111,26 @@ impl Expr {
                 e,
                 span,
             } => e.get().same_cast(*size, *signed, *span, other),
-            Expr::Bin(op, left, right, span) => {
-                left.get().same_operation(*op, right.get(), *span, other)
-            }
+            Expr::Bin(op, left, right, span) => match other {
+                Expr::Bin(other_op, other_left, other_right, other_span) => {
+                    same_operations(*op, *other_op)
+                        && same_spans(*span, *other_span)
+                        && left.get().same(other_left.get())
+                        && right.get().same(other_right.get())
+                }
+                _ => false,
+            },
+        }
+    }
+
+    /// Whether the other one is the cell of that array at this index.
+    #[cycle(same)]
+    fn same_cell(&self, array: &Var, other: &Expr) -> bool
+        ensures { IsTrue result ↔ (Expr.Cell array.now self.now ≡ other.now) }
+    {
+        match other {
+            Expr::Cell(other_array, at) => array.same(other_array) && self.same(at.get()),
+            _ => false,
         }
     }
 
@@ -158,22 +172,6 @@ impl Expr {
                     && signed == *other_signed
                     && same_spans(span, *other_span)
                     && self.same(e.get())
-            }
-            _ => false,
-        }
-    }
-
-    /// Whether the other one is this operation on this one and a right operand.
-    #[cycle(same)]
-    fn same_operation(&self, op: BinOp, right: &Expr, span: Span, other: &Expr) -> bool
-        ensures { IsTrue result ↔ (Expr.Bin op self.now right.now span ≡ other.now) }
-    {
-        match other {
-            Expr::Bin(other_op, other_left, other_right, other_span) => {
-                same_operations(op, *other_op)
-                    && same_spans(span, *other_span)
-                    && self.same(other_left.get())
-                    && right.same(other_right.get())
             }
             _ => false,
         }

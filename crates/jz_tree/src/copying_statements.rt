@@ -150,18 +150,31 @@ impl Stmt {
     }
 }
 
+/// A copy of the assignment of these parts.
+fn copy_assignment(
+    alloc: Global,
+    to: &Seq<Lval>,
+    op: Option<BinOp>,
+    rhs: &Rhs,
+    cond: &Option<Expr>,
+) -> Result<StmtKind, AllocError>
+    ensures { IfOk result (λ copy. copy ≡ StmtKind.Assign to.now op rhs.now cond.now) }
+{
+    Ok(StmtKind::Assign {
+        to: copy_lvals(alloc, to)?,
+        op,
+        rhs: rhs.copy(alloc)?,
+        cond: copy_condition(alloc, cond)?,
+    })
+}
+
 impl StmtKind {
     #[cycle(copy_statement)]
     pub fn copy(&self, alloc: Global) -> Result<StmtKind, AllocError>
         ensures { IfOk result (λ copy. copy ≡ self.now) }
     {
         match self {
-            StmtKind::Assign { to, op, rhs, cond } => Ok(StmtKind::Assign {
-                to: copy_lvals(alloc, to)?,
-                op: *op,
-                rhs: rhs.copy(alloc)?,
-                cond: copy_condition(alloc, cond)?,
-            }),
+            StmtKind::Assign { to, op, rhs, cond } => copy_assignment(alloc, to, *op, rhs, cond),
             StmtKind::If(cond, yes, no) => Ok(StmtKind::If(
                 cond.copy(alloc)?,
                 copy_block(alloc, yes)?,
@@ -189,7 +202,13 @@ impl StmtKind {
                 down,
                 to,
                 body,
-            } => copy_for(alloc, counter, from, *down, to, body),
+            } => Ok(StmtKind::For {
+                counter: counter.copy(alloc)?,
+                from: from.copy(alloc)?,
+                down: *down,
+                to: to.copy(alloc)?,
+                body: copy_block(alloc, body)?,
+            }),
             StmtKind::Mark(vars) => Ok(StmtKind::Mark(copy_vars(alloc, vars)?)),
         }
     }
@@ -204,26 +223,4 @@ pub fn copy_block(alloc: Global, block: &Seq<Stmt>) -> Result<Seq<Stmt>, AllocEr
         copies.push(s.copy(alloc)?)?;
     }
     Ok(copies)
-}
-
-/// A copy of the `for` of these parts.
-#[cycle(copy_statement)]
-fn copy_for(
-    alloc: Global,
-    counter: &Var,
-    from: &Expr,
-    down: bool,
-    to: &Expr,
-    body: &Seq<Stmt>,
-) -> Result<StmtKind, AllocError>
-    ensures { IfOk result (λ copy. copy
-        ≡ StmtKind.For counter.now from.now down to.now body.now) }
-{
-    Ok(StmtKind::For {
-        counter: counter.copy(alloc)?,
-        from: from.copy(alloc)?,
-        down,
-        to: to.copy(alloc)?,
-        body: copy_block(alloc, body)?,
-    })
 }
