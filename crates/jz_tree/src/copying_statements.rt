@@ -3,7 +3,7 @@
 ghost use Rattle.std.specs.Prelude.{◌≡◌, IfOk};
 ghost use Rattle.jz_tree.specs.declared.stmt.StmtKind.{StmtKind};
 
-use crate::expr::{Expr, Var};
+use crate::expr::{BinOp, Expr, Var};
 use crate::program::{Note, NoteValue, Param, Ret};
 use crate::stmt::{Lval, Rhs, Stmt, StmtKind};
 use jz_io::{Boxed, Seq};
