@@ -98,11 +98,11 @@ impl Expr {
                 Expr::Var(b) => a.same(b),
                 _ => false,
             },
-            Expr::Cell(array, at) => at.get().same_cell(array, other),
-            Expr::Load(a) => match other {
-                Expr::Load(b) => a.same(b),
+            Expr::Cell(a, at) => match other {
+                Expr::Cell(b, other_at) => a.same(b) && at.get().same(other_at.get()),
                 _ => false,
             },
+            Expr::Load(access) => access.same_load(other),
             Expr::Neg(a, span) => a.get().same_negation(*span, other),
             Expr::Not(a, span) => a.get().same_complement(*span, other),
             Expr::Cast {
@@ -120,17 +120,6 @@ impl Expr {
                 }
                 _ => false,
             },
-        }
-    }
-
-    /// Whether the other one is the cell of that array at this index.
-    #[cycle(same)]
-    fn same_cell(&self, array: &Var, other: &Expr) -> bool
-        ensures { IsTrue result ↔ (Expr.Cell array.now self.now ≡ other.now) }
-    {
-        match other {
-            Expr::Cell(other_array, at) => array.same(other_array) && self.same(at.get()),
-            _ => false,
         }
     }
 
@@ -248,6 +237,17 @@ impl Access {
             && self.unaligned == other.unaligned
             && same_spans(self.span, other.span)
             && self.at.get().same(other.at.get())
+    }
+
+    /// Whether the other one is the word of memory that this access reads.
+    #[cycle(same)]
+    fn same_load(&self, other: &Expr) -> bool
+        ensures { IsTrue result ↔ (Expr.Load self.now ≡ other.now) }
+    {
+        match other {
+            Expr::Load(access) => self.same(access),
+            _ => false,
+        }
     }
 }
 
