@@ -77,6 +77,10 @@ impl<T> Seq<T> {
         ensures err { OnErr result (self.new ≡ self.old) }
     {
         let Seq { mut items } = more;
+        if self.items.is_empty() {
+            self.items = items;
+            return Ok(());
+        }
         self.items.append(&mut items)
     }
 
