@@ -14,7 +14,7 @@ use crate::access::{cell, load, variable};
 use crate::left::{LeftSide, Waiting, left_side, own_size};
 use crate::operators::{binary, cast, inverted_value, is_settled, negated_value};
 use crate::state::State;
-use crate::value::{Stuck, Value, defined};
+use crate::value::{Stuck, Value, defined, missing};
 use jz_tree::{BinOp, Expr, Failure, Seq, is_shift};
 use x64_insn::Size;
 
@@ -118,9 +118,12 @@ fn evaluate_single(
             e: operand,
             span,
         } => {
-            let value = evaluate_settled(operand.get(), own_size(operand.get()), state, out)?;
-            let word = defined(*span, cast(*size, *signed, value))?;
-            Ok(word)
+            let own = own_size(operand.get());
+            let value = evaluate_settled(operand.get(), own, state, out)?;
+            match cast(*size, *signed, value) {
+                None => Err(Failure::Refused(missing(*span))),
+                Some(word) => Ok(word),
+            }
         }
         Expr::Bin(_, _, _, _) => unreachable!(),
     }
