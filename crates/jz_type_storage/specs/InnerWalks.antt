@@ -4,9 +4,8 @@ use Rattle.std.specs.List.{list_any}
 use Rattle.std.specs.Str.{bytes_eq}
 use Rattle.jz_tree.specs.Span.{Span}
 use Rattle.jz_type_storage.specs.declared.walk.Assigned.{Assigned}
-use Rattle.jz_type_storage.specs.Paths.{Flow, Then, reading_expr, turns_of, assigning, flow_step}
+use Rattle.jz_type_storage.specs.Paths.{Flow, assigning, flow_step}
 use Rattle.jz_type_storage.specs.InnerSurely.{Names, having, both, put, after, first}
-use Rattle.jz_tree.specs.declared.expr.Expr.{Expr}
 use Rattle.jz_tree.specs.declared.stmt.StmtKind.{StmtKind}
 use Rattle.jz_tree.specs.declared.stmt.StmtKind.TheFolds.{fold-StmtKind}
 
@@ -17,11 +16,6 @@ members ks n = list_any (bytes_eq n) ks
 -- what an assignment does
 abbrev pub flow_of_assigned : Assigned → Flow
 flow_of_assigned a = assigning a.to.now a.op.now a.rhs.now a.cond.now
-
--- what a `for` does, by its bounds, its counter and what its body does
-abbrev pub flow_of_for : Expr → Expr → List ℕ → Flow → Flow
-flow_of_for from to counter body =
-    Then (reading_expr from) (Then (reading_expr to) (turns_of counter body))
 
 -- the earliest read along a flow of a name that is asked and not surely set, where names are set
 -- before

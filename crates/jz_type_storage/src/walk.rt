@@ -1,8 +1,10 @@
 //! Which names a walk over statements surely sets, and its earliest read of one that is not.
 
 ghost use Rattle.std.specs.Prelude.{◌≡◌, ◌++◌, IfOk, OnOk};
+ghost use Rattle.jz_type_names.specs.Order.{earlier};
 ghost use Rattle.jz_type_storage.specs.Paths.{setting, setting_all, turns_of, flow_of_all};
-ghost use Rattle.jz_type_storage.specs.InnerWalks.{flow_of_kind, flow_of_for};
+ghost use Rattle.jz_type_storage.specs.Paths.{reading_expr};
+ghost use Rattle.jz_type_storage.specs.InnerWalks.{flow_of_kind, unset_read};
 ghost use Rattle.jz_type_storage.specs.InnerWalks.{members, Walks, HasWalked, flow_of_assigned};
 
 use crate::reads::{in_condition, in_expr, in_old, in_right};
@@ -138,24 +140,21 @@ fn turns(
     Ok(first)
 }
 
-/// A `for`: its bounds are read, and then its turns.
-#[cycle(walk)]
-fn walk_for(
+/// The earliest read in the bounds of a `for`.
+fn in_bounds(
     alloc: Global,
     asked: &IndexSet<Text>,
-    set: &mut IndexSet<Text>,
-    counter: &Text,
+    set: &IndexSet<Text>,
     from: &Expr,
     to: &Expr,
-    body: &Seq<Stmt>,
 ) -> Result<Option<Span>, AllocError>
-    ensures { let flow = flow_of_for from.now to.now counter.now (flow_of_all body.now) in
-        HasWalked result asked.now.keys flow set.old.keys set.new.keys }
+    ensures { IfOk result (λ at. at ≡ earlier
+        (unset_read asked.now.keys (reading_expr from.now) set.now.keys)
+        (unset_read asked.now.keys (reading_expr to.now) set.now.keys)) }
 {
-    let one = in_expr(alloc, asked, &*set, from)?;
-    let two = in_expr(alloc, asked, &*set, to)?;
-    let rest = turns(alloc, asked, set, counter, body)?;
-    Ok(earlier_of(one, earlier_of(two, rest)))
+    let one = in_expr(alloc, asked, set, from)?;
+    let two = in_expr(alloc, asked, set, to)?;
+    Ok(earlier_of(one, two))
 }
 
 #[cycle(walk)]
@@ -169,8 +168,7 @@ fn walk(
 {
     match kind {
         StmtKind::Assign { to, op, rhs, cond } => {
-            let it = Assigned { to, op, rhs, cond };
-            assign(alloc, asked, set, it)
+            assign(alloc, asked, set, Assigned { to, op, rhs, cond })
         }
         StmtKind::If(cond, yes, no) => {
             let test = in_expr(alloc, asked, &*set, cond)?;
@@ -201,7 +199,11 @@ fn walk(
             down: _,
             to,
             body,
-        } => walk_for(alloc, asked, set, &counter.name, from, to, body),
+        } => {
+            let bounds = in_bounds(alloc, asked, &*set, from, to)?;
+            let rest = turns(alloc, asked, set, &counter.name, body)?;
+            Ok(earlier_of(bounds, rest))
+        }
         StmtKind::Mark(_) => Ok(None),
     }
 }

@@ -1,8 +1,10 @@
-use Rattle.std.proofs.Common.{rules, arith, drop, sym, subst, ap, ◌∙◌, None}
+use Rattle.std.proofs.Common.{rules, arith, drop, refl, sym, subst, ap, ◌∙◌, None}
 use Rattle.std.proofs.lemmas.List.{drop_all}
-use Rattle.jz_type_storage.specs.Paths.{flow_of, flow_of_all, reading_expr, turns_of, Then}
-use Rattle.jz_type_storage.specs.InnerWalks.{members, Walks, HasWalked}
+use Rattle.jz_type_storage.specs.Paths.{flow_of, flow_of_all, reading_expr, Repeat, Then, Does, Sets}
+use Rattle.jz_type_storage.specs.InnerWalks.{members, unset_read, Walks}
 use Rattle.jz_type_names.specs.Order.{earlier}
+use Rattle.jz_type_names.specs.Scopes.{name_of}
+use Rattle.jz_type_names.proofs.Earliest.{earlier-assoc}
 use Rattle.jz_type_storage.proofs.Flows.{if_flow, bare_flow, body_flow, for_flow, mark_flow}
 use Rattle.jz_type_storage.proofs.Walking.{walks_skip, walks_test, walks_if, walks_no_body, walks_body, walking_ends}
 use Rattle.jz_type_storage.proofs.walk.+walk.Goals as goal
@@ -14,24 +16,20 @@ walk_all-returns t c =
     (walking_ends a flow_of c.args.stmts.now (drop c.loop-stmt.stmt-index c.as_slice-stmt-items.result.now) c.args.set.now.keys c.loop-stmt.set.keys c.loop-stmt.best
     (drop_all c.loop-stmt.stmt-index c.as_slice-stmt-items.result.now (omega arith)) c.loop-stmt.invariant)
 
-pub walk_for-returns : goal.walk_for-returns
-walk_for-returns t c =
+pub walk-returns-in_ok-rest-in-For : goal.walk-returns-in_ok-rest-in-For
+walk-returns-in_ok-rest-in-For t c =
     let a = members c.args.asked.now.keys in
-    let from = c.args.from.now in
-    let to = c.args.to.now in
+    let i = c.in-For in
     let old = c.args.set.now.keys in
     let end = c.turns.new.set.keys in
-    let r = c.earlier_of-2.result in
-    let g = turns_of c.args.counter.now (flow_of_all c.args.body.now) in
-    walks_test a from (Then (reading_expr to) g) old end c.in_ok-one.one c.earlier_of.result r c.in_ok-one.ensures
-    (walks_test a to g old end c.in_ok-two.two c.in_ok-rest.rest c.earlier_of.result c.in_ok-two.ensures c.in_ok-rest.ensures c.earlier_of.ensures.is)
-    c.earlier_of-2.ensures.is
-
-pub walk-returns-in-For : goal.walk-returns-in-For
-walk-returns-in-For t c =
-    let i = c.in-For in
-    subst (λ h. HasWalked c.walk_for.result c.args.asked.now.keys h c.args.set.now.keys c.walk_for.new.set.keys)
-    (sym (for_flow c.args.kind.now i.counter i.from i.down i.to i.body i.is)) c.walk_for.ensures
+    let r = c.earlier_of-in-For.result in
+    let from = unset_read c.args.asked.now.keys (reading_expr i.from) old in
+    let to = unset_read c.args.asked.now.keys (reading_expr i.to) old in
+    let g = Repeat (Then (Does (Sets (name_of i.counter).0)) (flow_of_all i.body)) in
+    subst (λ h. Walks a h old r end) (sym (for_flow c.args.kind.now i.counter i.from i.down i.to i.body i.is))
+    (walks_test a i.from (Then (reading_expr i.to) g) old end from (earlier to c.in_ok-rest-in-For.rest) r refl
+    (walks_test a i.to g old end to c.in_ok-rest-in-For.rest (earlier to c.in_ok-rest-in-For.rest) refl c.in_ok-rest-in-For.ensures refl)
+    (c.earlier_of-in-For.ensures.is ∙ ap (λ o. earlier o c.in_ok-rest-in-For.rest) c.in_ok-bounds-in-For.ensures ∙ earlier-assoc from to c.in_ok-rest-in-For.rest))
 
 pub walk-returns-in-Mark : goal.walk-returns-in-Mark
 walk-returns-in-Mark t c =
