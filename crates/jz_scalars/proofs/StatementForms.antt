@@ -1,6 +1,5 @@
 -- What a statement of each form becomes.
 use Rattle.std.proofs.Common.{◌≡◌, Bool, List, Option, Some, None, sym, ap, ◌∙◌}
-use Rattle.std.specs.Prelude.{option_map}
 use Rattle.jz_tree.specs.declared.expr.BinOp.{BinOp}
 use Rattle.jz_tree.specs.declared.expr.Expr.{Expr}
 use Rattle.jz_tree.specs.declared.expr.Var.{Var}
@@ -13,7 +12,7 @@ use Rattle.jz_tree.specs.declared.stmt.StmtKind.TheViews.{roll-Stmt}
 use Rattle.jz_tree.specs.declared.stmt.StmtKind.TheFolds.{fold-roll-Stmt, fold-roll-StmtKind}
 use Rattle.jz_scalars.specs.declared.made.MadeKind.{MadeKind}
 use Rattle.jz_scalars.specs.declared.made.MadeOne.{MadeOne}
-use Rattle.jz_scalars.specs.Scalars.{made_assign, made_if, made_until, made_turns, made_while, made_for, made_mark, made_layer, one_made, kind_made, statement_made, block_made}
+use Rattle.jz_scalars.specs.Scalars.{made_assign, made_if, made_until, made_turns, made_for, made_mark, made_layer, one_made, kind_made, statement_made, block_made}
 
 abbrev pub one_of : Stmt → MadeKind → MadeOne
 one_of s k = record { stmt = roll-Stmt (record { notes = s.notes; span = s.span; kind = k.kind }); steps = k.steps }
@@ -32,10 +31,6 @@ until_is p c = ap kind_made (sym (kind.rolls-While p c None)) ∙ fold-roll-Stmt
 
 pub turns_is : (p : List Stmt) (c : Expr) (b : List Stmt) → kind_made (kind.While p c (Some b)) ≡ made_turns (block_made p) c (block_made b)
 turns_is p c b = ap kind_made (sym (kind.rolls-While p c (Some b))) ∙ fold-roll-StmtKind MadeKind MadeOne made_layer one_made (StmtKind-F.While p c (Some b))
-
-pub while_is : (p : List Stmt) (c : Expr) (b : Option (List Stmt)) → kind_made (kind.While p c b) ≡ made_while (block_made p) c (option_map block_made b)
-while_is p c None = until_is p c
-while_is p c (Some b) = turns_is p c b
 
 pub for_is : (i : Var) (from : Expr) (down : Bool) (to : Expr) (b : List Stmt) → kind_made (kind.For i from down to b) ≡ made_for i from down to (block_made b)
 for_is i from down to b = ap kind_made (sym (kind.rolls-For i from down to b)) ∙ fold-roll-StmtKind MadeKind MadeOne made_layer one_made (StmtKind-F.For i from down to b)

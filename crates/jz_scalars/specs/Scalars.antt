@@ -84,11 +84,6 @@ made_turns p c b =
           (all_steps b.steps) ∷ [];
     }
 
--- one whose body may be absent
-abbrev pub made_while : Made → Expr → Option Made → MadeKind
-made_while p c None = made_until p c
-made_while p c (Some b) = made_turns p c b
-
 abbrev pub made_for : Var → Expr → Bool → Expr → Made → MadeKind
 made_for i from down to b =
     record {

@@ -101,29 +101,8 @@ pub(crate) fn made_if(
     Ok(MadeKind { kind, steps })
 }
 
-/// A `while`, of which the body may be absent.
-pub(crate) fn made_while(
-    alloc: Global,
-    prologue: Made,
-    cond: &Expr,
-    body: Option<Made>,
-) -> Result<MadeKind, AllocError>
-    ensures { IfOk result (λ made. made ≡ scalars.made_while prologue cond.now body) }
-{
-    match body {
-        None => {
-            let made = made_until(alloc, prologue, cond)?;
-            Ok(made)
-        }
-        Some(turn) => {
-            let made = made_turns(alloc, prologue, cond, turn)?;
-            Ok(made)
-        }
-    }
-}
-
 /// A loop that ends with its test.
-fn made_until(alloc: Global, prologue: Made, cond: &Expr) -> Result<MadeKind, AllocError>
+pub(crate) fn made_until(alloc: Global, prologue: Made, cond: &Expr) -> Result<MadeKind, AllocError>
     ensures { IfOk result (λ made. made ≡ scalars.made_until prologue cond.now) }
 {
     let test = test_numbers(alloc, cond)?;
@@ -149,7 +128,7 @@ fn made_until(alloc: Global, prologue: Made, cond: &Expr) -> Result<MadeKind, Al
     Ok(MadeKind { kind, steps })
 }
 
-fn made_turns(
+pub(crate) fn made_turns(
     alloc: Global,
     prologue: Made,
     cond: &Expr,

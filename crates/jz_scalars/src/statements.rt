@@ -1,10 +1,10 @@
 //! Statements whose cells are scalars.
 
-ghost use Rattle.std.specs.Prelude.{◌≡◌, IfOk, option_map};
+ghost use Rattle.std.specs.Prelude.{◌≡◌, IfOk};
 ghost use Rattle.jz_scalars.specs.Scalars as scalars;
 
 use crate::made::{Made, MadeKind, MadeOne};
-use crate::plain::{made_assign, made_for, made_if, made_mark, made_while};
+use crate::plain::{made_assign, made_for, made_if, made_mark, made_turns, made_until};
 use jz_tree::{Seq, Stmt, StmtKind, copy_notes};
 use std::alloc::{AllocError, Global};
 
@@ -24,20 +24,6 @@ pub(crate) fn made_block(alloc: Global, stmts: &Seq<Stmt>) -> Result<Made, Alloc
     Ok(Made { stmts: made, steps })
 }
 
-/// The body of a `while`, where it has one.
-#[cycle(made)]
-fn made_body(alloc: Global, body: &Option<Seq<Stmt>>) -> Result<Option<Made>, AllocError>
-    ensures { IfOk result (λ made. made ≡ option_map scalars.block_made body.now) }
-{
-    match body {
-        None => Ok(None),
-        Some(stmts) => {
-            let turn = made_block(alloc, stmts)?;
-            Ok(Some(turn))
-        }
-    }
-}
-
 #[cycle(made)]
 fn made_statement(alloc: Global, stmt: &Stmt) -> Result<MadeOne, AllocError>
     ensures { IfOk result (λ made. made ≡ scalars.statement_made stmt.now) }
@@ -55,10 +41,7 @@ fn made_kind(alloc: Global, kind: &StmtKind) -> Result<MadeKind, AllocError>
     ensures { IfOk result (λ made. made ≡ scalars.kind_made kind.now) }
 {
     match kind {
-        StmtKind::Assign { to, op, rhs, cond } => {
-            let made = made_assign(alloc, to, *op, rhs, cond)?;
-            Ok(made)
-        }
+        StmtKind::Assign { to, op, rhs, cond } => made_assign(alloc, to, *op, rhs, cond),
         StmtKind::If(cond, holds, other) => {
             let then_part = made_block(alloc, holds)?;
             let else_part = made_block(alloc, other)?;
@@ -69,12 +52,19 @@ fn made_kind(alloc: Global, kind: &StmtKind) -> Result<MadeKind, AllocError>
             prologue,
             cond,
             body,
-        } => {
-            let before = made_block(alloc, prologue)?;
-            let turn = made_body(alloc, body)?;
-            let made = made_while(alloc, before, cond, turn)?;
-            Ok(made)
-        }
+        } => match body {
+            None => {
+                let before = made_block(alloc, prologue)?;
+                let made = made_until(alloc, before, cond)?;
+                Ok(made)
+            }
+            Some(body) => {
+                let before = made_block(alloc, prologue)?;
+                let turn = made_block(alloc, body)?;
+                let made = made_turns(alloc, before, cond, turn)?;
+                Ok(made)
+            }
+        },
         StmtKind::For {
             counter,
             from,
@@ -86,9 +76,6 @@ fn made_kind(alloc: Global, kind: &StmtKind) -> Result<MadeKind, AllocError>
             let made = made_for(alloc, counter, from, *down, to, round)?;
             Ok(made)
         }
-        StmtKind::Mark(vars) => {
-            let made = made_mark(alloc, vars)?;
-            Ok(made)
-        }
+        StmtKind::Mark(vars) => made_mark(alloc, vars),
     }
 }

@@ -1,10 +1,10 @@
-use Rattle.std.proofs.Common.{rules, ◌∷◌, [], ◌++◌, Some, ◌∙◌, ap, sym}
-use Rattle.std.specs.Prelude.{option_map}
+use Rattle.std.proofs.Common.{rules, ◌∷◌, [], ◌++◌, ◌∙◌, ap, sym, subst, IfOk}
 use Rattle.jz_tree.specs.declared.stmt.StmtKind.TheViews.{roll-Stmt}
+use Rattle.jz_tree.specs.declared.stmt.StmtKind.TheVariants as kind
 use Rattle.jz_scalars.specs.declared.made.MadeOne.{MadeOne}
-use Rattle.jz_scalars.specs.Scalars.{made_if, made_while, made_for, kind_made, block_made}
+use Rattle.jz_scalars.specs.Scalars.{made_if, made_until, made_turns, made_for, kind_made, block_made}
 use Rattle.jz_scalars.proofs.Loops.{begun, one_more, ended_stmts, ended_steps}
-use Rattle.jz_scalars.proofs.StatementForms.{one_of, statement_is, assign_is, if_is, while_is, for_is, mark_is}
+use Rattle.jz_scalars.proofs.StatementForms.{one_of, statement_is, assign_is, if_is, until_is, turns_is, for_is, mark_is}
 use Rattle.jz_scalars.proofs.statements.+made.Goals as goal
 
 -- ---- statements in their order
@@ -24,12 +24,6 @@ made_block-returns t c =
     ap (λ (l : _). record { stmts = l; steps = c.loop-stmt.steps }) (ended_stmts ss c.loop-stmt.stmt-index c.loop-stmt.made c.loop-stmt.steps (search rules) c.loop-stmt.invariant)
     ∙ ap (λ (l : _). record { stmts = (block_made ss).stmts; steps = l }) (ended_steps ss c.loop-stmt.stmt-index c.loop-stmt.made c.loop-stmt.steps (search rules) c.loop-stmt.invariant)
 
-pub made_body-returns-in-None : goal.made_body-returns-in-None
-made_body-returns-in-None t c = sym (ap (option_map block_made) c.in-None.is)
-
-pub made_body-returns-in_ok-turn-in-Some : goal.made_body-returns-in_ok-turn-in-Some
-made_body-returns-in_ok-turn-in-Some t c = ap Some c.in_ok-turn-in-Some.ensures ∙ sym (ap (option_map block_made) c.in-Some.is)
-
 -- ---- one statement
 
 pub made_statement-returns : goal.made_statement-returns
@@ -39,9 +33,9 @@ made_statement-returns t c =
     ap (λ notes. record { stmt = roll-Stmt (record { notes = notes; span = s.span; kind = m.kind }); steps = m.steps }) c.in_ok-notes.ensures
     ∙ ap (one_of s) c.in_ok-made.ensures ∙ sym (statement_is s)
 
-pub made_kind-returns-in_ok-made-in-Assign : goal.made_kind-returns-in_ok-made-in-Assign
-made_kind-returns-in_ok-made-in-Assign t c =
-    c.in_ok-made-in-Assign.ensures ∙ sym (ap kind_made c.in-Assign.is ∙ assign_is c.in-Assign.to c.in-Assign.op c.in-Assign.rhs c.in-Assign.cond)
+pub made_kind-returns-in-Assign : goal.made_kind-returns-in-Assign
+made_kind-returns-in-Assign t c =
+    subst (λ k. IfOk c.made_assign.result (λ made. made ≡ k)) (sym (ap kind_made c.in-Assign.is ∙ assign_is c.in-Assign.to c.in-Assign.op c.in-Assign.rhs c.in-Assign.cond)) c.made_assign.ensures
 
 pub made_kind-returns-in_ok-made-in-If : goal.made_kind-returns-in_ok-made-in-If
 made_kind-returns-in_ok-made-in-If t c =
@@ -50,12 +44,18 @@ made_kind-returns-in_ok-made-in-If t c =
     ∙ ap (made_if c.in-If.cond (block_made c.in-If.holds)) c.in_ok-else_part-in-If.ensures
     ∙ sym (ap kind_made c.in-If.is ∙ if_is c.in-If.cond c.in-If.holds c.in-If.other)
 
-pub made_kind-returns-in_ok-made-in-While : goal.made_kind-returns-in_ok-made-in-While
-made_kind-returns-in_ok-made-in-While t c =
-    c.in_ok-made-in-While.ensures
-    ∙ ap (λ p. made_while p c.in-While.cond c.in_ok-turn-in-While.turn) c.in_ok-before-in-While.ensures
-    ∙ ap (made_while (block_made c.in-While.prologue) c.in-While.cond) c.in_ok-turn-in-While.ensures
-    ∙ sym (ap kind_made c.in-While.is ∙ while_is c.in-While.prologue c.in-While.cond c.in-While.body)
+pub made_kind-returns-in_ok-made-in-None : goal.made_kind-returns-in_ok-made-in-None
+made_kind-returns-in_ok-made-in-None t c =
+    c.in_ok-made-in-None.ensures
+    ∙ ap (λ p. made_until p c.in-While.cond) c.in_ok-before-in-None.ensures
+    ∙ sym (ap kind_made c.in-While.is ∙ ap (λ b. kind_made (kind.While c.in-While.prologue c.in-While.cond b)) c.in-None.is ∙ until_is c.in-While.prologue c.in-While.cond)
+
+pub made_kind-returns-in_ok-made-in-Some : goal.made_kind-returns-in_ok-made-in-Some
+made_kind-returns-in_ok-made-in-Some t c =
+    c.in_ok-made-in-Some.ensures
+    ∙ ap (λ p. made_turns p c.in-While.cond c.in_ok-turn-in-Some.turn) c.in_ok-before-in-Some.ensures
+    ∙ ap (made_turns (block_made c.in-While.prologue) c.in-While.cond) c.in_ok-turn-in-Some.ensures
+    ∙ sym (ap kind_made c.in-While.is ∙ ap (λ b. kind_made (kind.While c.in-While.prologue c.in-While.cond b)) c.in-Some.is ∙ turns_is c.in-While.prologue c.in-While.cond c.in-Some.body)
 
 pub made_kind-returns-in_ok-made-in-For : goal.made_kind-returns-in_ok-made-in-For
 made_kind-returns-in_ok-made-in-For t c =
@@ -63,6 +63,6 @@ made_kind-returns-in_ok-made-in-For t c =
     ∙ ap (made_for c.in-For.counter c.in-For.from c.in-For.down c.in-For.to) c.in_ok-round-in-For.ensures
     ∙ sym (ap kind_made c.in-For.is ∙ for_is c.in-For.counter c.in-For.from c.in-For.down c.in-For.to c.in-For.body)
 
-pub made_kind-returns-in_ok-made-in-Mark : goal.made_kind-returns-in_ok-made-in-Mark
-made_kind-returns-in_ok-made-in-Mark t c =
-    c.in_ok-made-in-Mark.ensures ∙ sym (ap kind_made c.in-Mark.is ∙ mark_is c.in-Mark.vars)
+pub made_kind-returns-in-Mark : goal.made_kind-returns-in-Mark
+made_kind-returns-in-Mark t c =
+    subst (λ k. IfOk c.made_mark.result (λ made. made ≡ k)) (sym (ap kind_made c.in-Mark.is ∙ mark_is c.in-Mark.vars)) c.made_mark.ensures
