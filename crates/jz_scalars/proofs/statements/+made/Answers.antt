@@ -1,4 +1,4 @@
-use Rattle.std.proofs.Common.{rules, ◌∷◌, [], ◌++◌, ◌∙◌, ap, sym, subst, IfOk}
+use Rattle.std.proofs.Common.{rules, ◌≡◌, ◌∷◌, [], ◌++◌, ◌∙◌, ap, sym, subst, IfOk}
 use Rattle.jz_tree.specs.declared.stmt.StmtKind.TheViews.{roll-Stmt}
 use Rattle.jz_tree.specs.declared.stmt.StmtKind.TheVariants as kind
 use Rattle.jz_scalars.specs.declared.made.MadeOne.{MadeOne}
