@@ -1,238 +1,13 @@
 //! Disassembly by the command `disasm`, of hexadecimal text and of listings, with the answers that
 //! the rules give by hand.
 
-use crate::language_tests::{EXCHANGE, MIX, SUM_AND_DIFFERENCE};
-use crate::tests::{COMPILE, Faults, NO_FAULTS, Row, SUM, answer_rows, run};
+use crate::commands::{Faults, NO_FAULTS, run};
+use crate::tests::{COMPILE, SUM};
 use jasminc_top::Status;
 use std::alloc::{AllocError, Global};
 use std::test::Fail;
 
 const DISASM: &[&str] = &["jasminc", "disasm", "add.jazz"];
-
-static ROWS: [Row; 31] = [
-    Row {
-        words: DISASM,
-        text: b"488b",
-        status: Status::Undecodable,
-        written: "undecodable 0 Truncated\n",
-        made: 0,
-    },
-    Row {
-        words: DISASM,
-        text: b"06",
-        status: Status::Undecodable,
-        written: "undecodable 0 Unknown\n",
-        made: 0,
-    },
-    Row {
-        words: DISASM,
-        text: b"498b0424",
-        status: Status::Ok,
-        written: "00000000 498b0424 mov.64 rax, [r12]\n",
-        made: 0,
-    },
-    Row {
-        words: DISASM,
-        text: b"418b4500",
-        status: Status::Ok,
-        written: "00000000 418b4500 mov.32 eax, [r13]\n",
-        made: 0,
-    },
-    Row {
-        words: DISASM,
-        text: b"48f",
-        status: Status::Syntax,
-        written: "syntax BadHex 3\n",
-        made: 0,
-    },
-    Row {
-        words: DISASM,
-        text: b"48 89\tF8\r\n48 01 f0\nC3\n",
-        status: Status::Ok,
-        written: "00000000 4889f8 mov.64 rax, rdi\n00000003 4801f0 add.64 rax, rsi\n00000006 c3 ret\n",
-        made: 0,
-    },
-    Row {
-        words: DISASM,
-        text: b"",
-        status: Status::Ok,
-        written: "",
-        made: 0,
-    },
-    Row {
-        words: DISASM,
-        text: b" \t\r\n",
-        status: Status::Ok,
-        written: "",
-        made: 0,
-    },
-    Row {
-        words: DISASM,
-        text: b"4",
-        status: Status::Syntax,
-        written: "syntax BadHex 1\n",
-        made: 0,
-    },
-    Row {
-        words: DISASM,
-        text: b"48 f\n ",
-        status: Status::Syntax,
-        written: "syntax BadHex 4\n",
-        made: 0,
-    },
-    Row {
-        words: DISASM,
-        text: b"48g",
-        status: Status::Syntax,
-        written: "syntax BadHex 2\n",
-        made: 0,
-    },
-    Row {
-        words: DISASM,
-        text: b"4g8",
-        status: Status::Syntax,
-        written: "syntax BadHex 1\n",
-        made: 0,
-    },
-    Row {
-        words: DISASM,
-        text: b"0x48",
-        status: Status::Syntax,
-        written: "syntax BadHex 1\n",
-        made: 0,
-    },
-    Row {
-        words: DISASM,
-        text: b"48\x0b89f8",
-        status: Status::Syntax,
-        written: "syntax BadHex 2\n",
-        made: 0,
-    },
-    Row {
-        words: DISASM,
-        text: b"06 4g",
-        status: Status::Syntax,
-        written: "syntax BadHex 4\n",
-        made: 0,
-    },
-    Row {
-        words: DISASM,
-        text: b"4889f806",
-        status: Status::Undecodable,
-        written: "undecodable 3 Unknown\n",
-        made: 0,
-    },
-    Row {
-        words: DISASM,
-        text: b"4889f8488b",
-        status: Status::Undecodable,
-        written: "undecodable 3 Truncated\n",
-        made: 0,
-    },
-    Row {
-        words: DISASM,
-        text: b"Jasmin-listing 1\n",
-        status: Status::Syntax,
-        written: "syntax BadHex 0\n",
-        made: 0,
-    },
-    Row {
-        words: DISASM,
-        text: b" jasmin-listing 1\n",
-        status: Status::Syntax,
-        written: "syntax BadHex 1\n",
-        made: 0,
-    },
-    Row {
-        words: DISASM,
-        text: b"jasmin-listing 1\nfn add\narg x u64 rdi\narg y u64 rsi\nret r u64 rax\nframe 0\nsaved -\ninsns 3\ncode 4889f84801f0c3\ntr [] {op[] op[]} [a:@0]\nct yes\nend\n",
-        status: Status::Ok,
-        written: "fn add\n00000000 4889f8 mov.64 rax, rdi\n00000003 4801f0 add.64 rax, rsi\n00000006 c3 ret\n",
-        made: 0,
-    },
-    Row {
-        words: DISASM,
-        text: b"jasmin-listing 1\n",
-        status: Status::Ok,
-        written: "",
-        made: 0,
-    },
-    Row {
-        words: DISASM,
-        text: b"jasmin-listing 1",
-        status: Status::Syntax,
-        written: "syntax BadListing 1\n",
-        made: 0,
-    },
-    Row {
-        words: DISASM,
-        text: b"jasmin-listing 2\n",
-        status: Status::Syntax,
-        written: "syntax BadListing 1\n",
-        made: 0,
-    },
-    Row {
-        words: DISASM,
-        text: b"jasmin-listing 1\r\n",
-        status: Status::Syntax,
-        written: "syntax BadListing 1\n",
-        made: 0,
-    },
-    Row {
-        words: DISASM,
-        text: b"jasmin-listing 1\n\n",
-        status: Status::Syntax,
-        written: "syntax BadListing 2\n",
-        made: 0,
-    },
-    Row {
-        words: DISASM,
-        text: b"jasmin-listing 1\nfn one\nret r u64 rax\nframe 0\nsaved -\ninsns 2\ncode 48c7c001000000c3\ntr [] {op[]} [a:@0]\nct yes\nend\nfn take\narg x u64 rdi\narg y u64 rsi\nret r u64 rax\nframe 0\nsaved -\ninsns 3\ncode 4889f04829f8c3\ntr [] {op[] op[]} [a:@0]\nct yes\nend\n",
-        status: Status::Ok,
-        written: "fn one\n00000000 48c7c001000000 mov.64 rax, 1\n00000007 c3 ret\nfn take\n00000000 4889f0 mov.64 rax, rsi\n00000003 4829f8 sub.64 rax, rdi\n00000006 c3 ret\n",
-        made: 0,
-    },
-    Row {
-        words: DISASM,
-        text: b"jasmin-listing 1\nfn one\nret r u64 rax\nframe 0\nsaved -\ninsns 2\ncode 48c7c001000000c3\ntr [] {op[]} [a:@0]\nct yes\nend\nfn take\narg x u64 rdi\narg y u64 rsi\nret r u64 rax\nframe 0\nsaved -\ninsns 3\ncode 4889f006c3\ntr [] {op[] op[]} [a:@0]\nct yes\nend\n",
-        status: Status::Undecodable,
-        written: "undecodable 3 Unknown\n",
-        made: 0,
-    },
-    Row {
-        words: DISASM,
-        text: b"jasmin-listing 1\nfn one\nret r u64 rax\nframe 0\nsaved -\ninsns 2\ncode 48c7c0010000\ntr [] {op[]} [a:@0]\nct yes\nend\nfn take\narg x u64 rdi\narg y u64 rsi\nret r u64 rax\nframe 0\nsaved -\ninsns 3\ncode 4889f04829f8c3\ntr [] {op[] op[]} [a:@0]\nct yes\nend\n",
-        status: Status::Undecodable,
-        written: "undecodable 0 Truncated\n",
-        made: 0,
-    },
-    Row {
-        words: DISASM,
-        text: b"jasmin-listing 1\nfn one\nret r u64 rax\nframe 0\nsaved -\ninsns 2\ncode 06\ntr [] {op[]} [a:@0]\nct yes\nend\nfn take\narg x u64 rdi\narg y u64 rsi\nret r u64 rax\nframe 0\nsaved -\ninsns 3\ncode 4889f04829f8c3\ntr [] {op[] op[]} [a:@0]\nct maybe\nend\n",
-        status: Status::Syntax,
-        written: "syntax BadListing 20\n",
-        made: 0,
-    },
-    Row {
-        words: DISASM,
-        text: b"jasmin-listing 1\nfn one\nret r u64 rax\nframe 0\nsaved -\ninsns 2\ncode \ntr [] {op[]} [a:@0]\nct yes\nend\n",
-        status: Status::Ok,
-        written: "fn one\n",
-        made: 0,
-    },
-    Row {
-        words: DISASM,
-        text: b"jasmin-listing 1\nfn one\nret r u64 rax\nframe 0\nsaved -\ninsns 7\ncode 48c7c001000000c3\ntr [] {op[]} [a:@0]\nct yes\nend\n",
-        status: Status::Ok,
-        written: "fn one\n00000000 48c7c001000000 mov.64 rax, 1\n00000007 c3 ret\n",
-        made: 0,
-    },
-];
-
-#[test]
-fn texts_are_disassembled(rt: HostRuntime) -> Result<(), Fail> {
-    answer_rows(&rt, rt.alloc(), &ROWS)
-}
 
 /// The listing of `add`, and how many of its first bytes are a file, with the answer.
 const LISTING: &[u8] =
@@ -264,7 +39,16 @@ fn listings_are_cut(rt: HostRuntime) -> Result<(), Fail> {
     Ok(())
 }
 
-/// The examples that compile today, and their lines.
+const EXCHANGE: &[u8] =
+    b"export fn exchange(reg u64 x, reg u64 y) -> reg u64, reg u64 {\n  reg u64 a b;\n  a = x;\n  b = y;\n  a ^= b;\n  b ^= a;\n  a ^= b;\n  return a, b;\n}\n";
+
+const MIX: &[u8] =
+    b"export fn mix(reg u64 a, reg u64 b, reg u64 c, reg u64 d) -> reg u64 {\n  reg u64 r k;\n  r = a;\n  r += b;\n  k = 0x9e3779b97f4a7c15;\n  r ^= k;\n  c -= d;\n  r += c;\n  r ^= 0x5bd1e995;\n  return r;\n}\n";
+
+const SUM_AND_DIFFERENCE: &[u8] =
+    b"export fn sum_and_difference(reg u64 x, reg u64 y) -> reg u64, reg u64 {\n  reg u64 sum difference;\n  sum = x;\n  sum += y;\n  difference = x;\n  difference -= y;\n  return sum, difference;\n}\n";
+
+/// Routines of examples/, and their lines.
 static COMPILED: [(&[u8], &str); 4] = [
     (
         SUM,

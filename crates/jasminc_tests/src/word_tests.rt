@@ -1,6 +1,7 @@
-//! The words of the command line, by tables: which are a command, and how long a run may be.
+//! The words of the command line: which are a command.
 
-use crate::tests::{NO_FAULTS, Row, SUM, answer_rows, run};
+use crate::commands::{NO_FAULTS, run};
+use crate::tests::SUM;
 use jasminc_top::Status;
 use std::alloc::{AllocError, Global};
 use std::test::Fail;
@@ -86,59 +87,3 @@ fn no_words_are_no_command(rt: HostRuntime) -> Result<(), Fail> {
     Ok(())
 }
 
-/// Runs with so many steps. The function has three instructions, of which the last shows an event.
-static RUNS: [Row; 5] = [
-    Row {
-        words: &[
-            "jasminc", "exec", "add.jazz", "add", "2", "3", "--fuel", "0",
-        ],
-        text: SUM,
-        status: Status::OutOfFuel,
-        written: "cut 0\n",
-        made: 1,
-    },
-    Row {
-        words: &["jasminc", "exec", "--fuel=0x2", "add.jazz", "add", "2", "3"],
-        text: SUM,
-        status: Status::OutOfFuel,
-        written: "cut 2\n",
-        made: 1,
-    },
-    Row {
-        words: &[
-            "jasminc", "exec", "add.jazz", "--fuel", "3", "add", "2", "3",
-        ],
-        text: SUM,
-        status: Status::Ok,
-        written: "addr 0x00007fffffff0008\nend 3\nresult r 0x0000000000000005\n",
-        made: 1,
-    },
-    Row {
-        words: &[
-            "jasminc",
-            "exec",
-            "add.jazz",
-            "add",
-            "2",
-            "3",
-            "--fuel",
-            "18446744073709551615",
-        ],
-        text: SUM,
-        status: Status::Ok,
-        written: "addr 0x00007fffffff0008\nend 3\nresult r 0x0000000000000005\n",
-        made: 1,
-    },
-    Row {
-        words: &["jasminc", "exec", "add.jazz", "add", "2", "--fuel", "0"],
-        text: SUM,
-        status: Status::Precondition,
-        written: "precondition items\n",
-        made: 0,
-    },
-];
-
-#[test]
-fn runs_are_cut_after_so_many_steps(rt: HostRuntime) -> Result<(), Fail> {
-    answer_rows(&rt, rt.alloc(), &RUNS)
-}
