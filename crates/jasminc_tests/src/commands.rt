@@ -41,12 +41,7 @@ fn written(alloc: Global, sink: &MemSink) -> Result<Vec<u8>, AllocError> {
 }
 
 /// A command over one file in memory, add.jazz.
-pub fn run(
-    alloc: Global,
-    words: &[&str],
-    text: &[u8],
-    faults: &Faults,
-) -> Result<Ran, AllocError> {
+pub fn run(alloc: Global, words: &[&str], text: &[u8], faults: &Faults) -> Result<Ran, AllocError> {
     let mut list = Vec::new(alloc);
     for word in words {
         list.push(String::from_str(alloc, word)?)?;

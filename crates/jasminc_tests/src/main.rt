@@ -19,13 +19,12 @@
 
 mod agreement;
 mod answers;
-mod commands;
-mod escapes;
-
 #[cfg(test)]
 mod call_tests;
+mod commands;
 #[cfg(test)]
 mod disasm_tests;
+mod escapes;
 #[cfg(test)]
 mod live_tests;
 #[cfg(test)]

@@ -86,4 +86,3 @@ fn no_words_are_no_command(rt: HostRuntime) -> Result<(), Fail> {
     );
     Ok(())
 }
-
