@@ -1,21 +1,23 @@
 //! `interp` and `exec` end with the same results and regions, and what the bytes show is the printed
 //! transformer applied to the leak of the source.
 
-use crate::answers::words_of;
 use crate::commands::{Ran, WIDE, run};
 use jasminc_top::Status;
 use std::alloc::{AllocError, Global};
 
 /// The answer of a command on a function and its items, where it has status 0.
-fn answer_of(
+fn answer_of<'a>(
     alloc: Global,
-    command: &str,
-    asked: &str,
+    command: &'a str,
+    asked: &'a str,
     text: &[u8],
 ) -> Result<Option<Vec<u8>>, AllocError> {
     let mut words = vec![in alloc; "jasminc", command, "add.jazz"]?;
-    let mut items = words_of(alloc, asked)?;
-    words.append(&mut items)?;
+    for word in asked.split(" ") {
+        if !word.is_empty() {
+            words.push(word)?;
+        }
+    }
     let Ran {
         status,
         written,

@@ -56,7 +56,7 @@ pub fn line_of(line: &str) -> Line<'_> {
 }
 
 /// The words between blanks.
-pub fn words_of<'a>(alloc: Global, line: &'a str) -> Result<Vec<&'a str>, AllocError> {
+fn words_of<'a>(alloc: Global, line: &'a str) -> Result<Vec<&'a str>, AllocError> {
     let mut words = Vec::new(alloc);
     for word in line.split(" ") {
         if !word.is_empty() {
