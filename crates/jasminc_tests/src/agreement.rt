@@ -1,7 +1,7 @@
 //! `interp` and `exec` end with the same results and regions, and what the bytes show is the printed
 //! transformer applied to the leak of the source.
 
-use crate::commands::{Ran, WIDE, run};
+use crate::commands::{Ran, WIDE, push_words, run};
 use jasminc_top::Status;
 use std::alloc::{AllocError, Global};
 
@@ -13,11 +13,7 @@ fn answer_of<'a>(
     text: &[u8],
 ) -> Result<Option<Vec<u8>>, AllocError> {
     let mut words = vec![in alloc; "jasminc", command, "add.jazz"]?;
-    for word in asked.split(" ") {
-        if !word.is_empty() {
-            words.push(word)?;
-        }
-    }
+    push_words(&mut words, asked)?;
     let Ran {
         status,
         written,

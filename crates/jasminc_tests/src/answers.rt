@@ -1,7 +1,7 @@
 //! What a line of standard input asks, and the answer.
 
 use crate::agreement::agreement;
-use crate::commands::{NO_FAULTS, run};
+use crate::commands::{NO_FAULTS, push_words, run};
 use crate::escapes::push_written;
 use std::alloc::{AllocError, Global};
 
@@ -55,19 +55,9 @@ pub fn line_of(line: &str) -> Line<'_> {
     row_of(line).map_or(Line::None, Line::Row)
 }
 
-/// The words between blanks.
-fn words_of<'a>(alloc: Global, line: &'a str) -> Result<Vec<&'a str>, AllocError> {
+fn command_answer(alloc: Global, line: &str, text: &[u8]) -> Result<String, AllocError> {
     let mut words = Vec::new(alloc);
-    for word in line.split(" ") {
-        if !word.is_empty() {
-            words.push(word)?;
-        }
-    }
-    Ok(words)
-}
-
-fn command_answer(alloc: Global, words: &str, text: &[u8]) -> Result<String, AllocError> {
-    let words = words_of(alloc, words)?;
+    push_words(&mut words, line)?;
     let ran = run(alloc, words.as_slice(), text, &NO_FAULTS)?;
     let mut out = String::new(alloc);
     let (status, made) = (ran.status as u8, ran.made.len());

@@ -36,6 +36,16 @@ pub const WIDE: Faults = Faults {
     room: 1_000_000,
 };
 
+/// Appends the words of a line, which blanks part.
+pub fn push_words<'a>(words: &mut Vec<&'a str>, line: &'a str) -> Result<(), AllocError> {
+    for word in line.split(" ") {
+        if !word.is_empty() {
+            words.push(word)?;
+        }
+    }
+    Ok(())
+}
+
 fn written(alloc: Global, sink: &MemSink) -> Result<Vec<u8>, AllocError> {
     sink.written().to_vec(alloc)
 }
